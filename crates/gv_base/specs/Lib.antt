@@ -1,0 +1,3 @@
+pub mod Arith
+pub mod Names
+pub mod Refusal
