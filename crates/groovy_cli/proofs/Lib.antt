@@ -1,0 +1,5 @@
+pub mod Lines
+pub mod Promises
+pub mod Running
+pub mod Scripts
+pub mod Writing

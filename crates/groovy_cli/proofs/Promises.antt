@@ -1,0 +1,75 @@
+-- What is promised of a call, from how the files stand and what was given.
+use Rattle.std.proofs.Common.{◌≡◌, ℕ, ◌<◌, true, false, List, [], length, inl, inr, Some, Result, Ok, Err, IsOk, OnOk, OnErr, is_err, refl, ap, sym, ◌∙◌, arith}
+use Rattle.std.proofs.lemmas.Bool.{lt-ltb, le-ltb}
+use Rattle.gv_outside.specs.Count.{HasCause, IsSteady}
+use Rattle.gv_outside.specs.Sink.{SinkState, Takes, TakesPrefix}
+use Rattle.gv_outside.specs.declared.files.Failed.{Failed}
+use Rattle.gv_outside.specs.Files.{Contents, FilesState, content_of}
+use Rattle.gv_outside.specs.declared.files.TheConstants.{MOST_BYTES}
+use Rattle.groovy_cli.specs.Answers.{Stands, outcome, status_of}
+use Rattle.groovy_cli.specs.Program.{Outcome, unwritten_line, file_of, file_outcome, script_outcome, unread_outcome}
+use Rattle.groovy_cli.specs.Top.{Sinks, Given, IsCut, IsUnwritten}
+use Rattle.groovy_cli.specs.declared.answer.Answer.{Answer}
+use Rattle.groovy_cli.specs.declared.answer.Answer.TheVariants.{Usage, Unread, TooLong, Refused, Printed}
+
+-- no answer has the status of a sink that failed
+status_of-answer : (answer : Answer) → status_of answer ≡ 74 → ⊥
+status_of-answer Usage e = omega (arith, e)
+status_of-answer Unread e = omega (arith, e)
+status_of-answer TooLong e = omega (arith, e)
+status_of-answer (Refused refusal) e = omega (arith, e)
+status_of-answer (Printed bytes) e = omega (arith, e)
+
+-- where no file failed, an answer says what the program meaning says
+file_outcome-answer : (file : List ℕ) (old new : FilesState) (answer : Answer) (contents : Contents) → Stands file old new answer → IsSteady old.faults new.faults → old.contents ≡ Some contents
+    → file_outcome file (content_of contents file) ≡ outcome file answer
+file_outcome-answer file old new Usage contents h steady told = absurd h
+file_outcome-answer file old new Unread contents h steady told = absurd (let risen = h.0.1 in omega (arith, risen, steady))
+file_outcome-answer file old new TooLong contents h steady told = rw (lt-ltb MOST_BYTES (length (content_of contents file)) (h.3 contents told)) refl
+file_outcome-answer file old new (Refused refusal) contents h steady told =
+    let read = h.2 contents told in rw (le-ltb MOST_BYTES (length (content_of contents file)) read.0) (ap (script_outcome file) read.1)
+file_outcome-answer file old new (Printed bytes) contents h steady told =
+    let read = h.2 contents told in rw (le-ltb MOST_BYTES (length (content_of contents file)) read.0) (ap (script_outcome file) read.1)
+
+pub unwritten : (words : List (List ℕ)) (file : List ℕ) (answer : Answer) (old new : FilesState) (before after : Sinks) (status : ℕ) → file_of words ≡ Some file → Stands file old new answer
+    → Given (outcome file answer) before after status → IsUnwritten words (record { files = old; sinks = before }) (record { files = new; sinks = after }) status
+unwritten words file answer old new before after status named stands (inl whole) = record {
+  cause = λ e. absurd (status_of-answer answer (sym whole.status_is ∙ e));
+  at_out = λ risen. absurd (let same = whole.out in omega (arith, same, risen));
+  at_err = λ risen. absurd (let same = whole.err in omega (arith, same, risen));
+  unread = λ e. absurd (status_of-answer answer (sym whole.status_is ∙ e));
+  cut = λ e. absurd (status_of-answer answer (sym whole.status_is ∙ e));
+}
+unwritten words file answer old new before after status named stands (inr broken) = record {
+  cause = λ e. elim broken.cut [ inl cut ↦ inl cut.risen | inr cut ↦ inr cut.risen ];
+  at_out = λ risen. broken.status_is;
+  at_err = λ risen. broken.status_is;
+  unread = λ e risen. rw named (by answer stands risen broken.cut);
+  cut = λ e steady contents told. rw named (rw (file_outcome-answer file old new answer contents stands steady told) broken.cut);
+}
+  where
+    by : (answer : Answer) → Stands file old new answer → old.faults < new.faults → IsCut (outcome file answer) before after → IsCut (unread_outcome file) before after
+    by Usage h risen cut = absurd h
+    by Unread h risen cut = cut
+    by TooLong h risen cut = absurd (let same = h.0 in omega (arith, same, risen))
+    by (Refused refusal) h risen cut = absurd (let same = h.0 in omega (arith, same, risen))
+    by (Printed bytes) h risen cut = absurd (let same = h.0 in omega (arith, same, risen))
+
+-- `out` failed, and then the line that says so was put into `err`
+pub cut_at_out : (outcome : Outcome) (out new_out err new_err : SinkState) (r s : Result (Unit {0}) Failed) → is_err r ≡ true → (outcome.output ≡ [] → IsOk r)
+    → OnErr r (TakesPrefix out outcome.output new_out) → HasCause out.faults new_out.faults r
+    → OnOk s (Takes err unwritten_line new_err) → OnErr s (TakesPrefix err unwritten_line new_err) → HasCause err.faults new_err.faults s
+    → Given outcome (record { out = out; err = err }) (record { out = new_out; err = new_err }) 74
+cut_at_out outcome out new_out err new_err (Ok _) s failed asked prefix cause ok cut count = absurd (cc)
+cut_at_out outcome out new_out err new_err (Err _) (Ok _) failed asked prefix cause ok cut count = inr (record {
+  status_is = refl;
+  cut = inl (record { some = λ none. let h : false ≡ true = asked none in cc; risen = cause; output = prefix; line = (length unwritten_line, omega arith, ok) });
+  out = cause.0;
+  err = omega (arith, count);
+})
+cut_at_out outcome out new_out err new_err (Err _) (Err _) failed asked prefix cause ok cut count = inr (record {
+  status_is = refl;
+  cut = inl (record { some = λ none. let h : false ≡ true = asked none in cc; risen = cause; output = prefix; line = cut });
+  out = cause.0;
+  err = count.0;
+})

@@ -1,0 +1,51 @@
+-- What the program has to say, and how the files stand then.
+use Rattle.std.specs.Prelude.{◌≡◌, ℕ, ◌+◌, ◌<◌, ◌≤◌, true, List, [], length, Some, Result, Ok, Err}
+use Rattle.gv_base.specs.declared.refusal.Refusal.{Refusal}
+use Rattle.gv_outside.specs.Count.{HasRisen}
+use Rattle.gv_outside.specs.Files.{Contents, FilesState, content_of}
+use Rattle.gv_outside.specs.declared.files.TheConstants.{MOST_BYTES}
+use Rattle.groovy_cli.specs.Program.{Outcome, script_of, refusal_line, usage_line, unread_line, too_long_line}
+use Rattle.groovy_cli.specs.declared.answer.Answer.{Answer}
+use Rattle.groovy_cli.specs.declared.answer.Answer.TheVariants.{Usage, Unread, TooLong, Refused, Printed}
+
+-- what an answer writes and the status that it has
+abbrev pub output_of : Answer → List ℕ
+output_of (Printed bytes) = bytes.items
+output_of answer = []
+
+abbrev pub line_of : List ℕ → Answer → List ℕ
+line_of file Usage = usage_line
+line_of file Unread = unread_line file
+line_of file TooLong = too_long_line file
+line_of file (Refused refusal) = refusal_line file refusal
+line_of file (Printed bytes) = []
+
+abbrev pub status_of : Answer → ℕ
+status_of Usage = 64
+status_of Unread = 66
+status_of TooLong = 65
+status_of (Refused refusal) = 2
+status_of (Printed bytes) = 0
+
+abbrev pub outcome : List ℕ → Answer → Outcome
+outcome file answer = record { output = output_of answer; line = line_of file answer; status = status_of answer }
+
+-- the answer to a script that is refused or prints bytes
+abbrev pub Answers : Result (List ℕ) Refusal → Answer → Type 0
+Answers script (Refused refusal) = script ≡ Err refusal
+Answers script (Printed bytes) = script ≡ Ok bytes.items
+Answers script answer = ⊥
+
+-- a file was read whole, and where its content is told, the answer is that to the script in it
+abbrev pub IsRead : List ℕ → FilesState → FilesState → Answer → Type 0
+IsRead file old new answer = (new.faults ≡ old.faults) × (new.place ≤ MOST_BYTES)
+    × ((contents : Contents) → old.contents ≡ Some contents → (length (content_of contents file) ≤ MOST_BYTES) × Answers (script_of (content_of contents file)) answer)
+
+-- why an answer about a file is given
+abbrev pub Stands : List ℕ → FilesState → FilesState → Answer → Type 0
+Stands file old new Usage = ⊥
+Stands file old new Unread = HasRisen old.faults new.faults × (new.failed ≡ true) × (new.named ≡ Some file)
+Stands file old new TooLong = (new.faults ≡ old.faults) × (new.place ≡ MOST_BYTES + 1) × (new.named ≡ Some file)
+    × ((contents : Contents) → old.contents ≡ Some contents → MOST_BYTES < length (content_of contents file))
+Stands file old new (Refused refusal) = IsRead file old new (Refused refusal)
+Stands file old new (Printed bytes) = IsRead file old new (Printed bytes)

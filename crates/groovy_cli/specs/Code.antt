@@ -1,0 +1,48 @@
+-- The code that is written for sums.
+use Rattle.std.specs.Prelude.{Bool, true, false, List, [], ◌∷◌, ◌++◌, flat_map, Option, Some, None, option_map, if◌then◌else◌}
+use Rattle.gv_lex.specs.Lexing.{Lexeme}
+use Rattle.gv_lex.specs.declared.token.Symbol.{Symbol}
+use Rattle.gv_lex.specs.declared.token.Symbol.TheVariants as symbol
+use Rattle.gv_machine.specs.declared.small.Small.{Small}
+use Rattle.gv_machine.specs.declared.small.Small.TheVariants.{Push, Plus, Minus, Multiply, Print}
+use Rattle.groovy_cli.specs.Sums.{Pair, Sum, is_star, line_sums, pairs_of}
+
+abbrev pub instruction_of : Symbol → Small
+instruction_of symbol.Plus = Plus
+instruction_of symbol.Minus = Minus
+instruction_of symbol.Star = Multiply
+
+-- an operation waits until the product behind its sign has ended
+abbrev pub waiting_code : Option Small → List Small
+waiting_code None = []
+waiting_code (Some operation) = operation ∷ []
+
+-- the code of a pair behind a waiting operation, and what waits behind the pair: a factor is multiplied as it comes
+abbrev pub pair_code : Option Small → Pair → List Small
+pair_code waiting pair = if is_star pair.0 then Push pair.1 ∷ Multiply ∷ [] else waiting_code waiting ++ Push pair.1 ∷ []
+
+abbrev pub waiting_behind : Option Small → Symbol → Option Small
+waiting_behind waiting s = if is_star s then waiting else Some (instruction_of s)
+
+abbrev pub pairs_code : Option Small → List Pair → List Small
+pairs_code waiting [] = waiting_code waiting
+pairs_code waiting (pair ∷ pairs) = pair_code waiting pair ++ pairs_code (waiting_behind waiting pair.0) pairs
+
+abbrev pub sum_code : Sum → List Small
+sum_code sum = Push sum.first ∷ (pairs_code None sum.pairs ++ Print ∷ [])
+
+abbrev pub script_code : List Sum → List Small
+script_code sums = flat_map sum_code sums
+
+-- a line's code, where the line is empty or a sum
+abbrev pub line_code : List Lexeme → Option (List Small)
+line_code line = option_map script_code (line_sums line)
+
+-- the code of lexemes that are pairs
+abbrev pub code_of_pairs : Option Small → List Lexeme → Option (List Small)
+code_of_pairs waiting lexemes = option_map (pairs_code waiting) (pairs_of lexemes)
+
+-- what was written, unless the writing was given up
+abbrev pub if_written : Bool → List Small → Option (List Small)
+if_written true code = Some code
+if_written false code = None

@@ -1,0 +1,6 @@
+println 7 - 2 * 3
+
+println 2147483647 + 1
+println 2147483647 + 1L
+println 9223372036854775807 + 1
+println 3000000000
