@@ -1,10 +1,10 @@
 -- What the top call promises: the cause of each status, and what is written with it.
-use Rattle.std.specs.Prelude.{◌≡◌, ◌≢◌, ℕ, ◌+◌, ◌<◌, ◌≤◌, ◌⊎◌, true, List, [], Some, None, IsSome, IfSome}
+use Rattle.std.specs.Prelude.{◌≡◌, ◌≢◌, ℕ, ◌+◌, ◌<◌, ◌≤◌, ◌⊎◌, true, List, [], Some, None, IsSome, IfSome, IsErr, length}
 use Rattle.gv_outside.specs.Count.{HasRisen, IsSteady}
-use Rattle.gv_outside.specs.Files.{Contents, FilesState}
+use Rattle.gv_outside.specs.Files.{Contents, FilesState, content_of}
 use Rattle.gv_outside.specs.Sink.{SinkState, Takes, TakesPrefix}
 use Rattle.gv_outside.specs.declared.files.TheConstants.{MOST_BYTES}
-use Rattle.groovy_cli.specs.Program.{Outcome, file_of, outcome_of, usage_outcome, too_long_outcome, unread_outcome, unwritten_line}
+use Rattle.groovy_cli.specs.Program.{Outcome, file_of, script_of, outcome_of, usage_outcome, too_long_outcome, unread_outcome, unwritten_line}
 
 -- ---- the outside
 
@@ -78,6 +78,13 @@ Means words before after status = (contents : Contents) → before.files.content
 -- where nothing failed, the status is one of these, whatever is told
 abbrev pub IsComplete : Outside → Outside → ℕ → Type 0
 IsComplete before after status = IsSound before after → (status ≡ 71) ⊎ ((status ≡ 64) ⊎ ((status ≡ 65) ⊎ ((status ≡ 0) ⊎ (status ≡ 2))))
+
+-- 2 exactly where the script that the files tell is refused, but for want of memory
+pub record IsRefused (words : List (List ℕ)) (before after : Outside) (status : ℕ) : Type 0 where
+  pub cause : status ≡ 2 → (contents : Contents) → before.files.contents ≡ Some contents
+      → IfSome (file_of words) (λ file. IsErr (script_of (content_of contents file)))
+  pub always : IsSound before after → (contents : Contents) → before.files.contents ≡ Some contents
+      → IfSome (file_of words) (λ file. length (content_of contents file) ≤ MOST_BYTES → IsErr (script_of (content_of contents file)) → (status ≡ 2) ⊎ (status ≡ 71))
 
 -- 64 exactly where the words have no reading
 pub record IsUsage (words : List (List ℕ)) (before after : Outside) (status : ℕ) : Type 0 where

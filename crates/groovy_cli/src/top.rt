@@ -1,5 +1,5 @@
 ghost use Rattle.std.specs.Prelude.{◌≡◌, map, string_bytes};
-ghost use Rattle.groovy_cli.specs.Top.{outside, Means, IsComplete, IsUsage, IsTooLong, IsUnread, IsUnwritten, IsWanting, IsKept};
+ghost use Rattle.groovy_cli.specs.Top.{outside, Means, IsComplete, IsRefused, IsUsage, IsTooLong, IsUnread, IsUnwritten, IsWanting, IsKept};
 
 use crate::answer::{Answer, answer_to};
 use crate::report::give;
@@ -29,6 +29,9 @@ pub fn groovy<F: Files, O: Sink, E: Sink, L: Ledger>(
         (outside (F.state files.old) (O.state out.old) (E.state err.old))
         (outside (F.state files.new) (O.state out.new) (E.state err.new)) result }
     ensures complete { IsComplete
+        (outside (F.state files.old) (O.state out.old) (E.state err.old))
+        (outside (F.state files.new) (O.state out.new) (E.state err.new)) result }
+    ensures refused { IsRefused (map string_bytes words.now)
         (outside (F.state files.old) (O.state out.old) (E.state err.old))
         (outside (F.state files.new) (O.state out.new) (E.state err.new)) result }
     ensures usage { IsUsage (map string_bytes words.now)
