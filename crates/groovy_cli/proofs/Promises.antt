@@ -6,19 +6,19 @@ use Rattle.gv_outside.specs.Sink.{SinkState, Takes, TakesPrefix}
 use Rattle.gv_outside.specs.declared.files.Failed.{Failed}
 use Rattle.gv_outside.specs.Files.{Contents, FilesState, content_of}
 use Rattle.gv_outside.specs.declared.files.TheConstants.{MOST_BYTES}
-use Rattle.groovy_cli.specs.Answers.{Stands, outcome, status_of}
+use Rattle.groovy_cli.specs.Answers.{Stands, outcome}
 use Rattle.groovy_cli.specs.Program.{Outcome, unwritten_line, file_of, file_outcome, script_outcome, unread_outcome}
 use Rattle.groovy_cli.specs.Top.{Sinks, Given, IsCut, IsUnwritten}
 use Rattle.groovy_cli.specs.declared.answer.Answer.{Answer}
 use Rattle.groovy_cli.specs.declared.answer.Answer.TheVariants.{Usage, Unread, TooLong, Refused, Printed}
 
 -- no answer has the status of a sink that failed
-status_of-answer : (answer : Answer) → status_of answer ≡ 74 → ⊥
-status_of-answer Usage e = omega (arith, e)
-status_of-answer Unread e = omega (arith, e)
-status_of-answer TooLong e = omega (arith, e)
-status_of-answer (Refused refusal) e = omega (arith, e)
-status_of-answer (Printed bytes) e = omega (arith, e)
+not_unwritten : (file : List ℕ) (answer : Answer) → (outcome file answer).status ≡ 74 → ⊥
+not_unwritten file Usage e = omega (arith, e)
+not_unwritten file Unread e = omega (arith, e)
+not_unwritten file TooLong e = omega (arith, e)
+not_unwritten file (Refused refusal) e = omega (arith, e)
+not_unwritten file (Printed bytes) e = omega (arith, e)
 
 -- where no file failed, an answer says what the program meaning says
 file_outcome-answer : (file : List ℕ) (old new : FilesState) (answer : Answer) (contents : Contents) → Stands file old new answer → IsSteady old.faults new.faults → old.contents ≡ Some contents
@@ -34,11 +34,11 @@ file_outcome-answer file old new (Printed bytes) contents h steady told =
 pub unwritten : (words : List (List ℕ)) (file : List ℕ) (answer : Answer) (old new : FilesState) (before after : Sinks) (status : ℕ) → file_of words ≡ Some file → Stands file old new answer
     → Given (outcome file answer) before after status → IsUnwritten words (record { files = old; sinks = before }) (record { files = new; sinks = after }) status
 unwritten words file answer old new before after status named stands (inl whole) = record {
-  cause = λ e. absurd (status_of-answer answer (sym whole.status_is ∙ e));
+  cause = λ e. absurd (not_unwritten file answer (sym whole.status_is ∙ e));
   at_out = λ risen. absurd (let same = whole.out in omega (arith, same, risen));
   at_err = λ risen. absurd (let same = whole.err in omega (arith, same, risen));
-  unread = λ e. absurd (status_of-answer answer (sym whole.status_is ∙ e));
-  cut = λ e. absurd (status_of-answer answer (sym whole.status_is ∙ e));
+  unread = λ e. absurd (not_unwritten file answer (sym whole.status_is ∙ e));
+  cut = λ e. absurd (not_unwritten file answer (sym whole.status_is ∙ e));
 }
 unwritten words file answer old new before after status named stands (inr broken) = record {
   cause = λ e. elim broken.cut [ inl cut ↦ inl cut.risen | inr cut ↦ inr cut.risen ];

@@ -1,34 +1,20 @@
 -- What the program has to say, and how the files stand then.
-use Rattle.std.specs.Prelude.{◌≡◌, ℕ, ◌+◌, ◌<◌, ◌≤◌, true, List, [], length, Some, Result, Ok, Err}
+use Rattle.std.specs.Prelude.{◌≡◌, ℕ, ◌+◌, ◌<◌, ◌≤◌, true, List, length, Some, Result, Ok, Err}
 use Rattle.gv_base.specs.declared.refusal.Refusal.{Refusal}
 use Rattle.gv_outside.specs.Count.{HasRisen}
 use Rattle.gv_outside.specs.Files.{Contents, FilesState, content_of}
 use Rattle.gv_outside.specs.declared.files.TheConstants.{MOST_BYTES}
-use Rattle.groovy_cli.specs.Program.{Outcome, script_of, refusal_line, usage_line, unread_line, too_long_line}
+use Rattle.groovy_cli.specs.Program.{Outcome, script_of, usage_outcome, unread_outcome, too_long_outcome, refused_outcome, printed_outcome}
 use Rattle.groovy_cli.specs.declared.answer.Answer.{Answer}
 use Rattle.groovy_cli.specs.declared.answer.Answer.TheVariants.{Usage, Unread, TooLong, Refused, Printed}
 
--- what an answer writes and the status that it has
-abbrev pub output_of : Answer → List ℕ
-output_of (Printed bytes) = bytes.items
-output_of answer = []
-
-abbrev pub line_of : List ℕ → Answer → List ℕ
-line_of file Usage = usage_line
-line_of file Unread = unread_line file
-line_of file TooLong = too_long_line file
-line_of file (Refused refusal) = refusal_line file refusal
-line_of file (Printed bytes) = []
-
-abbrev pub status_of : Answer → ℕ
-status_of Usage = 64
-status_of Unread = 66
-status_of TooLong = 65
-status_of (Refused refusal) = 2
-status_of (Printed bytes) = 0
-
+-- what an answer about a file says
 abbrev pub outcome : List ℕ → Answer → Outcome
-outcome file answer = record { output = output_of answer; line = line_of file answer; status = status_of answer }
+outcome file Usage = usage_outcome
+outcome file Unread = unread_outcome file
+outcome file TooLong = too_long_outcome file
+outcome file (Refused refusal) = refused_outcome file refusal
+outcome file (Printed bytes) = printed_outcome bytes.items
 
 -- the answer to a script that is refused or prints bytes
 abbrev pub Answers : Result (List ℕ) Refusal → Answer → Type 0

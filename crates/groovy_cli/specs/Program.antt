@@ -72,18 +72,24 @@ pub record Outcome : Type 0 where
   pub line : List ℕ
   pub status : ℕ
 
-abbrev pub script_outcome : List ℕ → Result (List ℕ) Refusal → Outcome
-script_outcome file (Ok output) = record { output = output; line = []; status = 0 }
-script_outcome file (Err refusal) = record { output = []; line = refusal_line file refusal; status = 2 }
-
 abbrev pub usage_outcome : Outcome
 usage_outcome = record { output = []; line = usage_line; status = 64 }
+
+abbrev pub unread_outcome : List ℕ → Outcome
+unread_outcome file = record { output = []; line = unread_line file; status = 66 }
 
 abbrev pub too_long_outcome : List ℕ → Outcome
 too_long_outcome file = record { output = []; line = too_long_line file; status = 65 }
 
-abbrev pub unread_outcome : List ℕ → Outcome
-unread_outcome file = record { output = []; line = unread_line file; status = 66 }
+abbrev pub refused_outcome : List ℕ → Refusal → Outcome
+refused_outcome file refusal = record { output = []; line = refusal_line file refusal; status = 2 }
+
+abbrev pub printed_outcome : List ℕ → Outcome
+printed_outcome output = record { output = output; line = []; status = 0 }
+
+abbrev pub script_outcome : List ℕ → Result (List ℕ) Refusal → Outcome
+script_outcome file (Ok output) = printed_outcome output
+script_outcome file (Err refusal) = refused_outcome file refusal
 
 abbrev pub file_outcome : List ℕ → List ℕ → Outcome
 file_outcome file bytes = if nat_lt MOST_BYTES (length bytes) then too_long_outcome file else script_outcome file (script_of bytes)

@@ -1,7 +1,7 @@
-ghost use Rattle.std.specs.Prelude.{◌≡◌, OnOk, OnErr};
+ghost use Rattle.std.specs.Prelude.{◌≡◌, ℕ, List, OnOk, OnErr};
 ghost use Rattle.gv_outside.specs.Count.{HasCause};
 ghost use Rattle.gv_outside.specs.Sink.{Takes, TakesPrefix};
-ghost use Rattle.groovy_cli.specs.Answers.{line_of, outcome, output_of, status_of};
+ghost use Rattle.groovy_cli.specs.Answers.{outcome};
 ghost use Rattle.groovy_cli.specs.Program.{about_line, parts_line, refusal_line};
 ghost use Rattle.groovy_cli.specs.Top.{Given};
 
@@ -31,7 +31,7 @@ pub fn give<O: Sink, E: Sink>(file: &str, answer: &Answer, out: &mut O, err: &mu
 
 /// The bytes for `out`.
 fn output(answer: &Answer) -> &[u8]
-    ensures { result.now ≡ output_of answer.now }
+    ensures { (file : List ℕ) → result.now ≡ (outcome file answer.now).output }
 {
     match answer {
         Answer::Printed(bytes) => bytes.as_slice(),
@@ -40,7 +40,7 @@ fn output(answer: &Answer) -> &[u8]
 }
 
 fn status(answer: &Answer) -> u8
-    ensures { result ≡ status_of answer.now }
+    ensures { (file : List ℕ) → result ≡ (outcome file answer.now).status }
 {
     match answer {
         Answer::Usage => 64,
@@ -53,8 +53,8 @@ fn status(answer: &Answer) -> u8
 
 /// Puts the line for `err`.
 fn put_line<E: Sink>(file: &str, answer: &Answer, err: &mut E) -> Result<(), Failed>
-    ensures ok { OnOk result (Takes (E.state err.old) (line_of file.now answer.now) (E.state err.new)) }
-    ensures err { OnErr result (TakesPrefix (E.state err.old) (line_of file.now answer.now) (E.state err.new)) }
+    ensures ok { OnOk result (Takes (E.state err.old) (outcome file.now answer.now).line (E.state err.new)) }
+    ensures err { OnErr result (TakesPrefix (E.state err.old) (outcome file.now answer.now).line (E.state err.new)) }
     ensures cause { HasCause (E.state err.old).faults (E.state err.new).faults result }
 {
     match answer {
