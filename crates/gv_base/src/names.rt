@@ -1,7 +1,8 @@
 ghost use Rattle.std.specs.Prelude.{◌≡◌, ◌<◌, [], length, Some, IfOk, OnOk, OnErr};
-ghost use Rattle.gv_base.specs.Names.{name_of, text_of, with_name};
+ghost use Rattle.gv_base.specs.Names.{name_of, text_of, with_name, accessor_text};
 
 use crate::OutOfMemory;
+use crate::accessors::{Accessors, put};
 use crate::ids::Name;
 use indexmap::IndexSet;
 use std::alloc::Global;
@@ -11,15 +12,20 @@ use std::marker::Model;
 #[derive(Drop)]
 pub struct Names {
     texts: IndexSet<String>,
+    /// Those of each name, so that `accessor` needs no search.
+    accessors: Vec<Accessors>,
     alloc: Global,
 }
 
 impl Model for Names {
-    ghost use Rattle.std.specs.Prelude.{List, ℕ, map, string_bytes};
+    ghost use Rattle.std.specs.Prelude.{◌≡◌, List, ℕ};
+    ghost use Rattle.gv_base.specs.Accessors.{spelled, all_accessors};
 
     ghost Value = { List (List ℕ) };
 
-    ghost view = { λ names. map string_bytes names.texts.keys };
+    ghost view = { λ names. spelled names.texts.keys };
+
+    ghost invariant = { λ names. names.accessors.items ≡ all_accessors (spelled names.texts.keys) };
 }
 
 impl Names {
@@ -29,6 +35,7 @@ impl Names {
     {
         Names {
             texts: IndexSet::new(alloc),
+            accessors: Vec::new(alloc),
             alloc,
         }
     }
@@ -42,9 +49,14 @@ impl Names {
         if let Some(place) = self.texts.get_index_of(text) {
             return Ok(place);
         }
-        let owned = String::from_str(self.alloc, text)?;
-        let (place, _) = self.texts.insert_full(owned)?;
-        Ok(place)
+        put(self.alloc, &mut self.texts, &mut self.accessors, text)
+    }
+
+    /// The name of a text; `None` where the table doesn't have it.
+    pub fn find(&self, text: &str) -> Option<Name>
+        ensures { result ≡ name_of self.now text.now }
+    {
+        self.texts.get_index_of(text)
     }
 
     /// The text of a name of this table.
@@ -56,5 +68,32 @@ impl Names {
             Some(text) => text.as_str(),
             None => unreachable!(),
         }
+    }
+
+    /// The name of a property's getter, or of its setter where `write` is true; `None` where the
+    /// table doesn't have it.
+    pub fn accessor(&self, name: Name, write: bool) -> Option<Name>
+        requires { name < length self.now }
+        ensures { result ≡ name_of self.now (accessor_text write (text_of self.now name)) }
+    {
+        let accessors = self.accessors[name];
+        if write {
+            accessors.setter
+        } else {
+            accessors.getter
+        }
+    }
+
+    /// A table with the same names and texts.
+    pub fn copy(&self, alloc: Global) -> Result<Names, OutOfMemory>
+        ensures { IfOk result (λ names. names ≡ self.now) }
+    {
+        let texts = self.texts.clone()?;
+        let accessors = self.accessors.clone()?;
+        Ok(Names {
+            texts,
+            accessors,
+            alloc,
+        })
     }
 }

@@ -15,8 +15,24 @@ pub struct Place {
 /// Why a file isn't run.
 #[derive(Clone, Copy, Debug, PartialEq, Eq)]
 pub enum RefusalKind {
-    /// A literal that 64 bits don't hold.
+    /// Bytes that aren't UTF-8.
+    NotUtf8,
+    /// A string without its closing quote.
+    UnendedString,
+    /// A comment without its `*/`.
+    UnendedComment,
+    /// A backslash that begins no escape.
+    BadEscape,
+    /// A number that isn't written as an integer.
+    BadNumber,
+    /// A literal that 64 bits don't hold, or that 32 don't and has the suffix `I`.
     LiteralPast64Bits,
+    /// A character that begins no token.
+    StrayCharacter,
+    /// The start of a slashy string, or of a dollar slashy one.
+    SlashyString,
+    /// A `$` that begins no part of a string, or a `${` without its `}`.
+    UnendedInterpolation,
     /// A script of a form that can't be run yet.
     NotBuilt,
 }
@@ -27,7 +43,15 @@ impl RefusalKind {
         ensures { result ≡ number_of self }
     {
         match self {
+            RefusalKind::NotUtf8 => 1,
+            RefusalKind::UnendedString => 2,
+            RefusalKind::UnendedComment => 3,
+            RefusalKind::BadEscape => 4,
+            RefusalKind::BadNumber => 5,
             RefusalKind::LiteralPast64Bits => 6,
+            RefusalKind::StrayCharacter => 7,
+            RefusalKind::SlashyString => 8,
+            RefusalKind::UnendedInterpolation => 9,
             RefusalKind::NotBuilt => 40,
         }
     }
@@ -37,7 +61,15 @@ impl RefusalKind {
         ensures { result.now ≡ text_of self }
     {
         match self {
+            RefusalKind::NotUtf8 => "not UTF-8",
+            RefusalKind::UnendedString => "string not ended",
+            RefusalKind::UnendedComment => "comment not ended",
+            RefusalKind::BadEscape => "bad escape",
+            RefusalKind::BadNumber => "number outside this profile",
             RefusalKind::LiteralPast64Bits => "literal past 64 bits",
+            RefusalKind::StrayCharacter => "stray character",
+            RefusalKind::SlashyString => "slashy string",
+            RefusalKind::UnendedInterpolation => "interpolation not ended",
             RefusalKind::NotBuilt => "not built yet",
         }
     }

@@ -3,8 +3,11 @@ ghost use Rattle.std.specs.Prelude.{◌≡◌, ◌<◌};
 use crate::ArithOp::{
     And, IntDiv, LeftShift, Minus, Mod, Multiply, Or, Plus, RightShift, RightShiftUnsigned, Xor,
 };
-use crate::Value::{Int, Long, Null};
-use crate::{Arith, Names, RefusalKind, Steps, Text, arith};
+use crate::Value::{Bool, Class, Int, Long, Null, Obj};
+use crate::{
+    Arith, ExceptionKind, Names, RefusalKind, Steps, Text, arith, plain_equal, plain_hash,
+    plain_truth,
+};
 use std::marker::Brand;
 use std::sync::ledger::{Blank, Ledger};
 use std::test::Fail;
@@ -132,6 +135,65 @@ fn names(rt: HostRuntime) -> Result<(), Fail> {
 }
 
 #[test]
+fn accessors(rt: HostRuntime) -> Result<(), Fail> {
+    let mut names = Names::new(rt.alloc());
+    for text in [
+        "size", "getSize", "setUrl", "url", "Url", "getUrl", "", "get", "getéa", "éa", "getsize",
+    ] {
+        names.intern(text)?;
+    }
+    let names = names.copy(rt.alloc())?;
+    for (text, write, accessor) in [
+        ("size", false, Some(1)),
+        ("size", true, None),
+        ("url", true, Some(2)),
+        ("Url", true, Some(2)),
+        ("Url", false, Some(5)),
+        ("", false, Some(7)),
+        ("éa", false, Some(8)),
+        ("getsize", false, None),
+    ] {
+        if let Some(name) = names.find(text) {
+            assert_eq!(rt; names.accessor(name, write), accessor, "{text}");
+        } else {
+            assert!(rt; false, "{text}");
+        }
+    }
+    assert_eq!(rt; names.find("getElse"), None);
+    Ok(())
+}
+
+#[test]
+fn plain_values(rt: HostRuntime) {
+    for (v, truth, hash) in [
+        (Null, Some(false), Some(0)),
+        (Bool(true), Some(true), Some(1231)),
+        (Bool(false), Some(false), Some(1237)),
+        (Int(-7), Some(true), Some(-7)),
+        (Long(0), Some(false), Some(0)),
+        (Long(-1), Some(true), Some(0)),
+        (Long(4294967296), Some(true), Some(1)),
+        (Long(2147483648), Some(true), Some(-2147483648)),
+        (Class(0), Some(true), None),
+        (Obj(0), None, None),
+    ] {
+        assert_eq!(rt; (plain_truth(v), plain_hash(v)), (truth, hash), "{v:?}");
+    }
+    for (a, b, equal) in [
+        (Null, Null, Some(true)),
+        (Null, Obj(0), Some(false)),
+        (Obj(0), Obj(0), None),
+        (Int(1), Long(1), Some(true)),
+        (Long(4294967297), Int(1), Some(false)),
+        (Int(1), Bool(true), Some(false)),
+        (Class(3), Class(3), Some(true)),
+        (Class(3), Obj(3), None),
+    ] {
+        assert_eq!(rt; plain_equal(a, b), equal, "{a:?} and {b:?}");
+    }
+}
+
+#[test]
 fn texts(rt: HostRuntime) -> Result<(), Fail> {
     let text = Text::from_str(rt.alloc(), "Größe")?;
     let same = Text::new(String::from_str(rt.alloc(), "Größe")?);
@@ -139,6 +201,10 @@ fn texts(rt: HostRuntime) -> Result<(), Fail> {
     assert!(rt; text == same);
     let kind = RefusalKind::LiteralPast64Bits;
     assert_eq!(rt; (kind.number(), kind.text()), (6, "literal past 64 bits"));
+    assert_eq!(rt;
+        ExceptionKind::ArithmeticException.name(),
+        "ArithmeticException"
+    );
     Ok(())
 }
 

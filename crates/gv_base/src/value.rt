@@ -12,3 +12,6 @@ pub enum Value {
     Class(ClassId),
     Obj(ObjId),
 }
+
+/// What stands for the class of null among the classes of arguments: no class has this number.
+pub const NULL_KIND: ClassId = usize::MAX;
