@@ -1,16 +1,16 @@
 -- The code that is written for sums.
 use Rattle.std.specs.Prelude.{Bool, true, false, List, [], ◌∷◌, ◌++◌, flat_map, Option, Some, None, option_map, if◌then◌else◌}
-use Rattle.gv_lex.specs.Lexing.{Lexeme}
-use Rattle.gv_lex.specs.declared.token.Symbol.{Symbol}
-use Rattle.gv_lex.specs.declared.token.Symbol.TheVariants as symbol
+use Rattle.gv_lex.specs.Tokens.{What}
 use Rattle.gv_machine.specs.declared.small.Small.{Small}
 use Rattle.gv_machine.specs.declared.small.Small.TheVariants.{Push, Plus, Minus, Multiply, Print}
+use Rattle.groovy_cli.specs.declared.operator.Operator.{Operator}
+use Rattle.groovy_cli.specs.declared.operator.Operator.TheVariants as operator
 use Rattle.groovy_cli.specs.Sums.{Pair, Sum, is_star, line_sums, pairs_of}
 
-abbrev pub instruction_of : Symbol → Small
-instruction_of symbol.Plus = Plus
-instruction_of symbol.Minus = Minus
-instruction_of symbol.Star = Multiply
+abbrev pub instruction_of : Operator → Small
+instruction_of operator.Plus = Plus
+instruction_of operator.Minus = Minus
+instruction_of operator.Star = Multiply
 
 -- an operation waits until the product behind its sign has ended
 abbrev pub waiting_code : Option Small → List Small
@@ -21,8 +21,8 @@ waiting_code (Some operation) = operation ∷ []
 abbrev pub pair_code : Option Small → Pair → List Small
 pair_code waiting pair = if is_star pair.0 then Push pair.1 ∷ Multiply ∷ [] else waiting_code waiting ++ Push pair.1 ∷ []
 
-abbrev pub waiting_behind : Option Small → Symbol → Option Small
-waiting_behind waiting s = if is_star s then waiting else Some (instruction_of s)
+abbrev pub waiting_behind : Option Small → Operator → Option Small
+waiting_behind waiting o = if is_star o then waiting else Some (instruction_of o)
 
 abbrev pub pairs_code : Option Small → List Pair → List Small
 pairs_code waiting [] = waiting_code waiting
@@ -35,12 +35,12 @@ abbrev pub script_code : List Sum → List Small
 script_code sums = flat_map sum_code sums
 
 -- a line's code, where the line is empty or a sum
-abbrev pub line_code : List Lexeme → Option (List Small)
+abbrev pub line_code : List What → Option (List Small)
 line_code line = option_map script_code (line_sums line)
 
--- the code of lexemes that are pairs
-abbrev pub code_of_pairs : Option Small → List Lexeme → Option (List Small)
-code_of_pairs waiting lexemes = option_map (pairs_code waiting) (pairs_of lexemes)
+-- the code of tokens that are pairs
+abbrev pub code_of_pairs : Option Small → List What → Option (List Small)
+code_of_pairs waiting tokens = option_map (pairs_code waiting) (pairs_of tokens)
 
 -- what was written, unless the writing was given up
 abbrev pub if_written : Bool → List Small → Option (List Small)

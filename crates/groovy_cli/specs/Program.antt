@@ -5,7 +5,9 @@ use Rattle.std.specs.Option.{option_map_or}
 use Rattle.gv_base.specs.Refusal.{number_of, text_of}
 use Rattle.gv_base.specs.declared.refusal.Refusal.{Refusal}
 use Rattle.gv_base.specs.declared.refusal.RefusalKind.TheVariants.{NotBuilt}
-use Rattle.gv_lex.specs.Lexing.{Spelled, lexed, file_start}
+use Rattle.gv_lex.specs.Lexing.{lexed}
+use Rattle.gv_lex.specs.Places.{file_start}
+use Rattle.gv_lex.specs.Tokens.{Spelled}
 use Rattle.gv_outside.specs.Files.{Contents, content_of}
 use Rattle.gv_outside.specs.declared.files.TheConstants.{MOST_BYTES}
 use Rattle.groovy_cli.specs.Sums.{printed}
@@ -29,7 +31,7 @@ or_not_built (Some bytes) = Ok bytes
 
 abbrev pub printed_unless : Result (List Spelled) Refusal → Result (List ℕ) Refusal
 printed_unless (Err refusal) = Err refusal
-printed_unless (Ok tokens) = or_not_built (printed (map (λ token. token.lexeme) tokens))
+printed_unless (Ok tokens) = or_not_built (printed (map (λ token. token.what) tokens))
 
 -- the first refusal of a file's bytes, or what the script prints
 abbrev pub script_of : List ℕ → Result (List ℕ) Refusal

@@ -1,15 +1,16 @@
 ghost use Rattle.std.specs.Prelude.{◌≡◌, ◌≤◌, ℕ, List, ◌++◌, length, take, None, option_copied, IfOk, OnOk, IfSome, IfNone, All, option_map};
-ghost use Rattle.gv_lex.specs.Lexing.{IsNamed};
+ghost use Rattle.gv_lex.specs.Tokens.{IsNamed, IsNameOf, what_of};
 ghost use Rattle.groovy_cli.specs.Code.{script_code, line_code, pair_code, code_of_pairs, waiting_code, waiting_behind, instruction_of, if_written};
-ghost use Rattle.groovy_cli.specs.Sums.{all_sums, lines_of};
-ghost use Rattle.groovy_cli.specs.Tokens.{lexemes_of, line_len, ends_line_kind, number_of_kind, IsBehindLine, BeginsWith, BeginsWithNone};
+ghost use Rattle.groovy_cli.specs.Sums.{all_sums, lines_of, is_println, sum_of};
+ghost use Rattle.groovy_cli.specs.Tokens.{whats_of, line_len, ends_line_kind, number_of_kind, IsBehindLine, BeginsSum, BeginsWith, BeginsWithNone};
 
+use crate::operator::{Operator, operator_in};
 use gv_base::{Names, OutOfMemory, Value};
-use gv_lex::{Symbol, Token, TokenKind};
+use gv_lex::{Token, TokenKind, Word};
 use gv_machine::Small;
 use std::alloc::Global;
 
-/// The most tokens behind the first number of a line: 299 symbols, each with its number.
+/// The most tokens behind the first number of a line: 299 operators, each with its number.
 const MOST_BEHIND: usize = 2 * 299;
 
 /// The code of the sums that a token list's lines are, or None where a line is no sum.
@@ -19,7 +20,7 @@ pub fn compile(
     tokens: &[Token],
 ) -> Result<Option<Vec<Small>>, OutOfMemory>
     requires { All (IsNamed names.now) tokens.now }
-    ensures { IfOk result (λ code. option_map (λ c. c.items) code ≡ option_map script_code (all_sums (lines_of (lexemes_of names.now tokens.now)))) }
+    ensures { IfOk result (λ code. option_map (λ c. c.items) code ≡ option_map script_code (all_sums (lines_of (whats_of names.now tokens.now)))) }
 {
     let mut code = Vec::new(alloc);
     let mut rest = Some(tokens);
@@ -67,36 +68,57 @@ fn ends_line(kind: TokenKind) -> bool
 /// Appends a line's code. False where the line is no sum; then the code is of no use.
 fn write_line(names: &Names, line: &[Token], code: &mut Vec<Small>) -> Result<bool, OutOfMemory>
     requires { All (IsNamed names.now) line.now }
-    ensures { IfOk result (λ written. if_written written code.new.items ≡ option_map (λ piece. code.old.items ++ piece) (line_code (lexemes_of names.now line.now))) }
+    ensures { IfOk result (λ written. if_written written code.new.items ≡ option_map (λ piece. code.old.items ++ piece) (line_code (whats_of names.now line.now))) }
 {
-    let [first, second, behind @ ..] = line else {
-        return Ok(line.is_empty());
-    };
-    let TokenKind::Name(name) = first.kind else {
-        return Ok(false);
-    };
-    let Some(number) = number_in(second.kind) else {
-        return Ok(false);
-    };
-    if names.text(name) != "println" || behind.len() > MOST_BEHIND {
-        return Ok(false);
+    if line.is_empty() {
+        return Ok(true);
     }
+    let Some((number, pairs)) = sum_start(names, line) else {
+        return Ok(false);
+    };
     code.push(Small::Push(number))?;
-    if !write_pairs(behind, code)? {
+    if !write_pairs(pairs, code)? {
         return Ok(false);
     }
     code.push(Small::Print)?;
     Ok(true)
 }
 
-/// Appends the code of symbols, each with its number. False where the tokens are none.
+/// The first number of a line that begins as a sum does, and the tokens behind it.
+fn sum_start<'a>(names: &Names, line: &'a [Token]) -> Option<(Value, &'a [Token])>
+    requires { All (IsNamed names.now) line.now }
+    ensures found { IfSome result (λ start. BeginsSum names.now line.now start.0 start.1.now) }
+    ensures none { IfNone result (sum_of (whats_of names.now line.now) ≡ None) }
+{
+    let (first, behind) = line.split_first()?;
+    let (second, pairs) = behind.split_first()?;
+    let number = number_in(second.kind)?;
+    if is_println(names, first.kind) && pairs.len() <= MOST_BEHIND {
+        Some((number, pairs))
+    } else {
+        None
+    }
+}
+
+/// Whether a token is the name `println`.
+fn is_println(names: &Names, kind: TokenKind) -> bool
+    requires { IsNameOf names.now kind }
+    ensures { result ≡ is_println (what_of names.now kind) }
+{
+    match kind {
+        TokenKind::Word(Word::Name, name) => names.text(name) == "println",
+        _ => false,
+    }
+}
+
+/// Appends the code of operators, each with its number. False where the tokens are none.
 fn write_pairs(pairs: &[Token], code: &mut Vec<Small>) -> Result<bool, OutOfMemory>
-    ensures { IfOk result (λ written. (names : List (List ℕ)) → if_written written code.new.items ≡ option_map (λ piece. code.old.items ++ piece) (code_of_pairs None (lexemes_of names pairs.now))) }
+    ensures { IfOk result (λ written. (names : List (List ℕ)) → if_written written code.new.items ≡ option_map (λ piece. code.old.items ++ piece) (code_of_pairs None (whats_of names pairs.now))) }
 {
     let mut waiting = None;
     let mut rest = pairs;
-    'pairs: while let Some((symbol, number, behind)) = first_pair(rest) {
-        waiting = write_pair(waiting, symbol, number, code)?;
+    'pairs: while let Some((operator, number, behind)) = first_pair(rest) {
+        waiting = write_pair(waiting, operator, number, code)?;
         rest = behind;
     }
     if !rest.is_empty() {
@@ -106,37 +128,35 @@ fn write_pairs(pairs: &[Token], code: &mut Vec<Small>) -> Result<bool, OutOfMemo
     Ok(true)
 }
 
-/// The symbol and the number that tokens begin with, and the tokens behind them.
-fn first_pair(tokens: &[Token]) -> Option<(Symbol, Value, &[Token])>
+/// The operator and the number that tokens begin with, and the tokens behind them.
+fn first_pair(tokens: &[Token]) -> Option<(Operator, Value, &[Token])>
     ensures found { IfSome result (λ pair. BeginsWith tokens.now (pair.0, pair.1) pair.2.now) }
     ensures none { IfNone result (BeginsWithNone tokens.now) }
 {
     let (first, behind) = tokens.split_first()?;
     let (second, rest) = behind.split_first()?;
-    let TokenKind::Symbol(symbol) = first.kind else {
-        return None;
-    };
+    let operator = operator_in(first.kind)?;
     let number = number_in(second.kind)?;
-    Some((symbol, number, rest))
+    Some((operator, number, rest))
 }
 
-/// Appends the code of a symbol and its number, and answers the operation that waits behind it.
+/// Appends the code of an operator and its number, and answers the operation that waits behind it.
 fn write_pair(
     waiting: Option<Small>,
-    symbol: Symbol,
+    operator: Operator,
     number: Value,
     code: &mut Vec<Small>,
 ) -> Result<Option<Small>, OutOfMemory>
-    ensures { IfOk result (λ next. (code.new.items ≡ code.old.items ++ pair_code waiting (symbol, number)) × (next ≡ waiting_behind waiting symbol)) }
+    ensures { IfOk result (λ next. (code.new.items ≡ code.old.items ++ pair_code waiting (operator, number)) × (next ≡ waiting_behind waiting operator)) }
 {
-    if symbol == Symbol::Star {
+    if operator == Operator::Star {
         code.push(Small::Push(number))?;
         code.push(Small::Multiply)?;
         return Ok(waiting);
     }
     write_waiting(waiting, code)?;
     code.push(Small::Push(number))?;
-    Ok(Some(instruction(symbol)))
+    Ok(Some(instruction(operator)))
 }
 
 /// Appends the operation that waits, if there is one.
@@ -149,13 +169,13 @@ fn write_waiting(waiting: Option<Small>, code: &mut Vec<Small>) -> Result<(), Ou
     Ok(())
 }
 
-fn instruction(symbol: Symbol) -> Small
-    ensures { result ≡ instruction_of symbol }
+fn instruction(operator: Operator) -> Small
+    ensures { result ≡ instruction_of operator }
 {
-    match symbol {
-        Symbol::Plus => Small::Plus,
-        Symbol::Minus => Small::Minus,
-        Symbol::Star => Small::Multiply,
+    match operator {
+        Operator::Plus => Small::Plus,
+        Operator::Minus => Small::Minus,
+        Operator::Star => Small::Multiply,
     }
 }
 
@@ -164,7 +184,8 @@ fn number_in(kind: TokenKind) -> Option<Value>
     ensures { result ≡ number_of_kind kind }
 {
     match kind {
-        TokenKind::Literal(number @ (Value::Int(_) | Value::Long(_))) => Some(number),
+        TokenKind::Int(number) => Some(Value::Int(number)),
+        TokenKind::Long(number) => Some(Value::Long(number)),
         _ => None,
     }
 }

@@ -19,6 +19,7 @@ ghost use Rattle.std.specs.Prelude.{◌≡◌, ◌<◌};
 
 mod answer;
 mod compile;
+mod operator;
 mod report;
 #[cfg(test)]
 mod tests;

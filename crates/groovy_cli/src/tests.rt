@@ -116,7 +116,32 @@ fn scripts_print_their_sums(rt: HostRuntime) -> Result<(), Fail> {
         ("println 1 +", "", not_built, 2),
         ("println -1", "", not_built, 2),
         ("println 1 2", "", not_built, 2),
-        ("println 01", "", not_built, 2),
+        (
+            "#!/bin/groovy\nprintln 010 + 0x1F /* one\nline */ - -0b1_0 // 41",
+            "41\n",
+            "",
+            0,
+        ),
+        ("println 'a${1}'", "", not_built, 2),
+        ("println \"a${1} $b.c\"", "", not_built, 2),
+        (
+            "println 09 + #",
+            "",
+            "a.groovy:1:9: refused 5: number outside this profile\n",
+            2,
+        ),
+        (
+            "println \"a${",
+            "",
+            "a.groovy:1:11: refused 9: interpolation not ended\n",
+            2,
+        ),
+        (
+            "é /* x",
+            "",
+            "a.groovy:1:3: refused 3: comment not ended\n",
+            2,
+        ),
     ];
     for (script, output, line, status) in table {
         let ran = run::<Brand>(rt.alloc(), &["a.groovy"], script.as_bytes(), Blank::new(1))?;

@@ -1,3 +1,6 @@
-pub mod Pieces
-pub mod Places
 pub mod Told
+pub mod Putting
+pub mod Turning
+pub mod Paths
+pub mod Order
+pub mod Alike

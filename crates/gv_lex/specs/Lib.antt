@@ -1,2 +1,5 @@
+pub mod Places
+pub mod Tokens
 pub mod Lexing
 pub mod Steps
+pub mod Laws

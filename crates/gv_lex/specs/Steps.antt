@@ -1,55 +1,83 @@
--- The lexer's steps: a piece's length, what its reading keeps, and what is found so far.
-use Rattle.std.specs.Prelude.{◌≡◌, ℕ, suc, true, drop, List, [], ◌∷◌, ◌++◌, map, slice_index, All, Option, Some, None, if◌then◌else◌}
-use Rattle.std.specs.Char.{is_ascii_alphanumeric}
-use Rattle.std.specs.Str.{IsAscii}
+-- What the steps of the code promise one another.
+use Rattle.std.specs.Prelude.{◌≡◌, ℕ, suc, ◌+◌, ◌-◌, ◌<◌, ◌≤◌, List, [], ◌∷◌, ◌++◌, ◌==◌, if◌then◌else◌, length, map, reverse, string_bytes, All, None, Result, Ok, Err}
+use Rattle.gv_base.specs.Names.{text_of}
 use Rattle.gv_base.specs.declared.refusal.Place.{Place}
-use Rattle.gv_base.specs.declared.refusal.RefusalKind.TheVariants.{NotBuilt}
-use Rattle.gv_lex.specs.declared.lexer.LexError.{LexError}
-use Rattle.gv_lex.specs.declared.lexer.LexError.TheVariants.{Refused, OutOfMemory}
-use Rattle.gv_lex.specs.declared.lexer.Found.{Found}
-use Rattle.gv_lex.specs.declared.piece.PieceKind.{PieceKind}
-use Rattle.gv_lex.specs.declared.piece.PieceKind.TheVariants as kind
-use Rattle.gv_lex.specs.Lexing.{Reading, blank, token, past_64_bits, unknown, name, literal, symbol, line_end, Spelling, joins, told, reading_of, with_reading, file_start, IsNamed}
+use Rattle.gv_base.specs.declared.refusal.Refusal.{Refusal}
+use Rattle.gv_spelling.specs.Table.{Text}
+use Rattle.gv_lex.specs.declared.error.LexError.{LexError}
+use Rattle.gv_lex.specs.declared.error.LexError.TheVariants.{Refused, OutOfMemory}
+use Rattle.gv_lex.specs.declared.lexer.Lexer.{Lexer}
+use Rattle.gv_lex.specs.declared.token.Token.{Token}
+use Rattle.gv_lex.specs.Lexing.{State, Act, Reading, turn, judged_reading}
+use Rattle.gv_lex.specs.Places.{earlier, first_of}
+use Rattle.gv_lex.specs.Tokens.{Spelled, told, IsNamed, KeepsNames}
 
--- how many of the characters behind c are of its piece
-abbrev pub more : ℕ → List ℕ → ℕ
-more c [] = 0
-more c (d ∷ ds) = if joins c d then suc (more d ds) else 0
+-- what the lexer knows at its place
+abbrev pub state_of : Lexer → State
+state_of l = record { around = reverse l.around.items; here = l.here; so_far = string_bytes l.text; operand = l.operand; place = l.place }
 
-abbrev pub piece_len : List ℕ → ℕ
-piece_len text = suc (more (slice_index text 0) (drop 1 text))
+-- a name of the table, with its text
+pub record IsName (names : List (List ℕ)) (name : ℕ) (text : List ℕ) : Type 0 where
+  pub within : name < length names
+  pub text_is : text_of names name ≡ text
 
--- a piece that begins with a letter or a digit is of bytes below 128 alone
-abbrev pub IsPiece : List ℕ → Type 0
-IsPiece piece = is_ascii_alphanumeric (slice_index piece 0) ≡ true → IsAscii piece
+-- by the texts of a table, the lexer put these tokens, and nothing else changed
+pub record Puts (names : List (List ℕ)) (old : Lexer) (more : List Spelled) (new : Lexer) : Type 0 where
+  pub tokens : map (told names) new.tokens.items ≡ map (told names) old.tokens.items ++ more
+  pub named : All (IsNamed names) old.tokens.items → All (IsNamed names) new.tokens.items
+  pub first : new.first ≡ old.first
+  pub state : state_of new ≡ state_of old
 
--- what a piece of a kind stands for
-abbrev pub reading_by : List ℕ → PieceKind → Reading
-reading_by piece kind.Blank = blank
-reading_by piece kind.Name = token (name piece)
-reading_by piece (kind.Literal v) = token (literal v)
-reading_by piece (kind.Symbol s) = token (symbol s)
-reading_by piece kind.LineEnd = token line_end
-reading_by piece kind.Past64Bits = past_64_bits
-reading_by piece kind.Unknown = unknown
+-- the same by each table that keeps this one
+abbrev pub AlwaysPuts : List (List ℕ) → Lexer → List Spelled → Lexer → Type 0
+AlwaysPuts names old more new = (later : List (List ℕ)) → KeepsNames names later → Puts later old more new
 
-abbrev pub first_of : Option Place → Option Place → Option Place
-first_of (Some place) later = Some place
-first_of None later = later
+-- by the texts of a table, the lexer did what an act says
+pub record Follows (names : List (List ℕ)) (old : Lexer) (act : Act) (new : Lexer) : Type 0 where
+  pub tokens : map (told names) new.tokens.items ≡ map (told names) old.tokens.items ++ act.tokens
+  pub named : All (IsNamed names) old.tokens.items → All (IsNamed names) new.tokens.items
+  pub first : new.first ≡ earlier old.first act.refused
+  pub state : state_of new ≡ act.state
 
--- what is found so far, and behind it the spelling of the rest
-abbrev pub spelled_on : List (List ℕ) → Found → Spelling → Spelling
-spelled_on names found rest = record rest { tokens = map (told names) found.tokens.items ++ rest.tokens; past = first_of found.past rest.past }
+-- the same by each table that keeps this one
+abbrev pub AlwaysFollows : List (List ℕ) → Lexer → Act → Lexer → Type 0
+AlwaysFollows names old act new = (later : List (List ℕ)) → KeepsNames names later → Follows later old act new
 
--- after a piece at a place, what is found and the table go on from what they were before it
-pub record GoesOn (before : List (List ℕ)) (old : Found) (place : Place) (reading : Reading) (after : List (List ℕ)) (new : Found) : Type 0 where
-  pub named : All (IsNamed after) new.tokens.items
-  pub spelled : (rest : Spelling) → spelled_on after new rest ≡ spelled_on before old (with_reading place reading rest)
+-- the place's line and column have room for the characters that are left
+pub record HasRoom (place : Place) (left : ℕ) : Type 0 where
+  pub lines : place.line + left < 4294967296
+  pub columns : place.column + left < 4294967296
 
--- what isn't built is refused at its file's start
-abbrev pub refused_whole : ℕ → LexError
-refused_whole file = Refused (record { kind = NotBuilt; place = file_start file })
+-- the lexer did what the text's first spelling says, which has this length
+pub record Turns (names : List (List ℕ)) (old : Lexer) (text : Text) (len : ℕ) (new : Lexer) : Type 0 where
+  pub some : 0 < len
+  pub within : len ≤ length text
+  pub act : Act
+  pub is_turn : turn (state_of old) text ≡ record { len = len; act = act }
+  pub follows : AlwaysFollows names old act new
+  pub room : HasRoom new.place (length text - len)
 
-abbrev pub RefusesPiece : Place → List ℕ → LexError → Type 0
-RefusesPiece place piece (Refused refusal) = (reading_of piece ≡ unknown) × (Refused refusal ≡ refused_whole place.file)
-RefusesPiece place piece OutOfMemory = Unit {0}
+-- by the texts of a table, what was found so far and what is still to be read are a whole
+pub record Completes (names : List (List ℕ)) (lexer : Lexer) (rest whole : Reading) : Type 0 where
+  pub tokens : map (told names) lexer.tokens.items ++ rest.tokens ≡ whole.tokens
+  pub named : All (IsNamed names) lexer.tokens.items
+  pub first : first_of lexer.first rest.refusals ≡ first_of None whole.refusals
+
+-- the same by each table that keeps this one
+abbrev pub AlwaysCompletes : List (List ℕ) → Lexer → Reading → Reading → Type 0
+AlwaysCompletes names lexer rest whole = (later : List (List ℕ)) → KeepsNames names later → Completes later lexer rest whole
+
+-- by the texts of a table, the tokens are what a reading tells
+pub record IsJudged (names : List (List ℕ)) (whole : Reading) (tokens : List Token) : Type 0 where
+  pub told_are : judged_reading whole ≡ Ok (map (told names) tokens)
+  pub named : All (IsNamed names) tokens
+
+-- how many characters stand before the first dot
+abbrev pub word_len : Text → ℕ
+word_len [] = 0
+word_len (c ∷ s) = if c == 46 then 0 else suc (word_len s)
+
+-- an error is this refusal, or want of memory
+abbrev pub RefusedAs : Result (List Spelled) Refusal → LexError → Type 0
+RefusedAs lexed (Refused refusal) = lexed ≡ Err refusal
+RefusedAs lexed OutOfMemory = Unit {0}

@@ -33,3 +33,4 @@ mod tests;
 pub use kinds::{Fault, Keyword, Lexeme, Quote, RefusedWord, Symbol, Unit};
 pub use next::between;
 pub use strings::inside;
+pub use table::word_of;
