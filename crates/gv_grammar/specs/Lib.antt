@@ -1,0 +1,5 @@
+pub mod Phrases
+pub mod Tokens
+pub mod Exprs
+pub mod Meeting
+pub mod Examples
