@@ -71,7 +71,7 @@ no_more p = let e = left p in omega arith
 pub of_eats : {c : Symbol} {ts rest : List Token} → Eats c ts rest → Takes 1 ts rest
 of_eats (eats p) = takes_one
 
-of_keyword : {k : Keyword} {ts rest : List Token} → EatsKeyword k ts rest → Takes 1 ts rest
+pub of_keyword : {k : Keyword} {ts rest : List Token} → EatsKeyword k ts rest → Takes 1 ts rest
 of_keyword (eats_keyword p) = takes_one
 
 pub of_piece : {p : Piece} {n : ℕ} {ts rest : List Token} → EatsPiece p n ts rest → Takes 1 ts rest

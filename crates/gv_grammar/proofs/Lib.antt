@@ -5,4 +5,10 @@ pub mod Closures
 pub mod Tails
 pub mod Meets
 pub mod Starts
+pub mod Commands
+pub mod Filling
+pub mod ForIn
+pub mod StmtFirsts
+pub mod Stmts
+pub mod Scripts
 pub mod Derivations

@@ -35,7 +35,7 @@ use Rattle.gv_grammar.proofs.Tails.{reach_operator, reach_typing, operator_or_ty
 
 -- ---- meetings
 
-choice_no_target : (p : Place) (x z : Expr) (y : Option Expr) → is_target (expr.Choice p x y z) ≡ false
+pub choice_no_target : (p : Place) (x z : Expr) (y : Option Expr) → is_target (expr.Choice p x y z) ≡ false
 unfolding is_target out-Expr out
 choice_no_target p x z y = refl
 
@@ -354,9 +354,9 @@ module _ (all : ℕ) where
     meet_arg (plain_arg d) (plain_arg d2) e e2 =
         let a = ended (omega arith) (meet_expr d d2) e.stops e2.stops in record { tree = ap arg.Plain (a.tree); rest = a.rest }
     meet_arg (plain_arg d) (keyed_arg (key_gstring g) c d2) e e2 =
-        let a = ended (omega arith) (meet_expr d (string_expr all g)) e.stops (at_colon c) in absurd (not_colon (a.rest) e c)
-    meet_arg (plain_arg d) (keyed_arg k c d2) e e2 = absurd (key_apart all d k (λ h. omega arith) c e)
-    meet_arg (keyed_arg k c d) (plain_arg d2) e e2 = absurd (key_or_expr k c d2 e2)
+        let a = ended (omega arith) (meet_expr d (string_expr all g)) e.stops (at_colon c) in absurd (not_colon (a.rest) e.plain c)
+    meet_arg (plain_arg d) (keyed_arg k c d2) e e2 = absurd (key_apart all d k (λ h. omega arith) c e.plain)
+    meet_arg (keyed_arg k c d) (plain_arg d2) e e2 = absurd (key_or_expr k c d2 e2.plain)
     meet_arg (keyed_arg k c d) (keyed_arg {x = y} {rest = r2} k2 c2 d2) e e2 =
         let a = meet_key k k2 in
         let b = ended (omega arith) (meet_expr d (along (λ zs. IsExpr all y zs r2) (eaten_same (a.rest) c c2) d2)) e.stops e2.stops in
@@ -370,7 +370,7 @@ module _ (all : ℕ) where
     meet_arg d d2 e e2 = let a = arg_first all d in let b = arg_first all d2 in absurd (omega arith)
 
     -- a key before a `:` isn't an expression that ends an element
-    pub key_or_expr : {k : Key} {x : Expr} {ts us vs ws : List Token} → IsKey all k ts us → Eats symbol.Colon us vs → IsExpr all x ts ws → Ended ws → ⊥
+    pub key_or_expr : {k : Key} {x : Expr} {ts us vs ws : List Token} → IsKey all k ts us → Eats symbol.Colon us vs → IsExpr all x ts ws → (kind_of ws ≡ kind.Symbol symbol.Colon → ⊥) → ⊥
     key_or_expr (key_gstring g) c d e =
         let i = leading_of all d g in
         let a = meet_gstring g i.leading in
@@ -461,10 +461,10 @@ module _ (all : ℕ) where
 
     item_or_entry : {x : Item} {y : Entry} {ts us vs : List Token} → IsItem all x ts us → IsEntry all y ts vs → Ended us → ⊥
     item_or_entry (plain_item d) (keyed_entry (key_gstring g) c d2) e =
-        let a = ended (omega arith) (meet_expr d (string_expr all g)) e.stops (at_colon c) in not_colon (a.rest) e c
-    item_or_entry (plain_item d) (keyed_entry k c d2) e = key_apart all d k (λ h. omega arith) c e
+        let a = ended (omega arith) (meet_expr d (string_expr all g)) e.stops (at_colon c) in not_colon (a.rest) e.plain c
+    item_or_entry (plain_item d) (keyed_entry k c d2) e = key_apart all d k (λ h. omega arith) c e.plain
     item_or_entry (plain_item d) (computed_entry p d2 q c f2) e =
-        let a = ended (omega arith) (meet_expr d (parens_expr all p d2 q)) e.stops (at_colon c) in not_colon (a.rest) e c
+        let a = ended (omega arith) (meet_expr d (parens_expr all p d2 q)) e.stops (at_colon c) in not_colon (a.rest) e.plain c
     item_or_entry (plain_item d) (spread_entry p d2) e = let a = expr_spread all d in let b = ap spread_class (kind_eaten p) in omega arith
     item_or_entry (spread_item p d) (spread_entry p2 d2) e = let a = apart refl p p2 in cc
     item_or_entry (spread_item p d) (keyed_entry k c d2) e = let a = key_spread all k in let b = ap spread_class (kind_eaten p) in omega arith
@@ -476,12 +476,12 @@ module _ (all : ℕ) where
     entries_or_elements (more_entries d m f) g = let a = first_element g (entry_below all d) in entry_or_item d (a.first) (a.ends)
 
     entry_or_item : {x : Entry} {y : Item} {ts us vs : List Token} → IsEntry all x ts us → IsItem all y ts vs → Ended vs → ⊥
-    entry_or_item (keyed_entry k c d) (plain_item d2) e = key_or_expr k c d2 e
+    entry_or_item (keyed_entry k c d) (plain_item d2) e = key_or_expr k c d2 e.plain
     entry_or_item (computed_entry p d q c f) (plain_item d2) e =
         let i = inner_of all d2 p in
         let a = ended (omega arith) (meet_expr d i.inner) (at_paren q) (at_paren i.close) in
         let h = eaten_same (a.rest) q i.close in
-        not_colon (i.ends (along Stops (sym h) (at_colon c)) ∙ sym h) e c
+        not_colon (i.ends (along Stops (sym h) (at_colon c)) ∙ sym h) e.plain c
     entry_or_item (spread_entry p d) (plain_item d2) e = let a = expr_spread all d2 in let b = ap spread_class (kind_eaten p) in omega arith
     entry_or_item (keyed_entry k c d) (spread_item p d2) e = let a = key_spread all k in let b = ap spread_class (kind_eaten p) in omega arith
     entry_or_item (computed_entry p d q c f) (spread_item p2 d2) e = let a = apart refl p p2 in cc

@@ -14,6 +14,9 @@ use Rattle.gv_grammar.specs.Meeting.{Same}
 pub ap2 : {A B C : Type 0} {x y : A} {a b : B} (f : A → B → C) → x ≡ y → a ≡ b → f x a ≡ f y b
 ap2 {y = y} {a = a} f p q = ap (λ w. f w a) p ∙ ap (f y) q
 
+pub ap3 : {A B C D : Type 0} {x y : A} {a b : B} {u v : C} (f : A → B → C → D) → x ≡ y → a ≡ b → u ≡ v → f x a u ≡ f y b v
+ap3 {y = y} {a = a} {b = b} {u = u} f p q r = ap (λ w. f w a u) p ∙ (ap (λ w. f y w u) q ∙ ap (f y b) r)
+
 -- a reading of a rest that is the same
 pub along : (P : List Token → Type 0) {ts us : List Token} → ts ≡ us → P us → P ts
 along P p x = subst P (sym p) x

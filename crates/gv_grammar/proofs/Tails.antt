@@ -95,9 +95,9 @@ ended_paren p = record { stops = at_paren p; plain = λ h. let e = kind_eaten p 
 pub ended_bracket : {ts rest : List Token} → Eats symbol.RightBracket ts rest → Ended ts
 ended_bracket p = record { stops = at_bracket p; plain = λ h. let e = kind_eaten p in cc }
 
--- an element doesn't end before a `:`
-pub not_colon : {ts us vs : List Token} → ts ≡ us → Ended ts → Eats symbol.Colon us vs → ⊥
-not_colon e f p = f.plain (along (λ zs. kind_of zs ≡ kind.Symbol symbol.Colon) e (kind_eaten p))
+-- what ends before no `:`
+pub not_colon : {ts us vs : List Token} → ts ≡ us → (kind_of ts ≡ kind.Symbol symbol.Colon → ⊥) → Eats symbol.Colon us vs → ⊥
+not_colon e f p = f (along (λ zs. kind_of zs ≡ kind.Symbol symbol.Colon) e (kind_eaten p))
 
 -- ---- how an expression begins
 
@@ -216,8 +216,8 @@ module _ (all : ℕ) where
   no_type (eats_keyword p) q h = let a = ap type_name_of h in let b = meant q in cc
 
   key_primary : {x : Expr} {ts us rest : List Token} → IsPrimary all x ts us → (Stops us → rest ≡ us) → key_class (kind_of ts) < 5 → (key_class (kind_of ts) ≡ 2 → ⊥)
-      → kind_of (behind_first ts) ≡ kind.Symbol symbol.Colon → Ended rest → ⊥
-  key_primary (an_atom {rest = us} q) f h g c e = e.plain (along (λ zs. kind_of zs ≡ kind.Symbol symbol.Colon) (f (colon_stops us c)) c)
+      → kind_of (behind_first ts) ≡ kind.Symbol symbol.Colon → (kind_of rest ≡ kind.Symbol symbol.Colon → ⊥) → ⊥
+  key_primary (an_atom {rest = us} q) f h g c e = e (along (λ zs. kind_of zs ≡ kind.Symbol symbol.Colon) (f (colon_stops us c)) c)
   key_primary (a_gstring d) f h g c e = g (gstring_key all d)
   key_primary (parens p d q) f h g c e = let a = ap key_class (kind_eaten p) in omega arith
   key_primary (a_list p d) f h g c e = let a = ap key_class (kind_eaten p) in omega arith
@@ -227,11 +227,11 @@ module _ (all : ℕ) where
   key_primary (a_new p n o d) f h g c e = no_type p n c
 
   key_head : {ts rest : List Token} → Head ts rest → key_class (kind_of ts) < 5 → (key_class (kind_of ts) ≡ 2 → ⊥)
-      → kind_of (behind_first ts) ≡ kind.Symbol symbol.Colon → Ended rest → ⊥
+      → kind_of (behind_first ts) ≡ kind.Symbol symbol.Colon → (kind_of rest ≡ kind.Symbol symbol.Colon → ⊥) → ⊥
   key_head (by_prefix p) h g c e = key_no_prefix _ h p
   key_head (by_primary d f) h g c e = key_primary d f h g c e
 
-  pub key_apart : {x : Expr} {k : Key} {ts us vs rest : List Token} → IsExpr all x ts rest → (d : IsKey all k ts us) → (key_number all d ≡ 2 → ⊥) → Eats symbol.Colon us vs → Ended rest → ⊥
+  pub key_apart : {x : Expr} {k : Key} {ts us vs rest : List Token} → IsExpr all x ts rest → (d : IsKey all k ts us) → (key_number all d ≡ 2 → ⊥) → Eats symbol.Colon us vs → (kind_of rest ≡ kind.Symbol symbol.Colon → ⊥) → ⊥
   key_apart d k h c e = let a = key_first all k in
       key_head (head d) (key_below all k) (λ i. h (sym a ∙ i)) (along (λ zs. kind_of zs ≡ kind.Symbol symbol.Colon) (sym (behind_key k h)) (kind_eaten c)) e
 

@@ -54,7 +54,7 @@ abbrev pub is_dot : MemberOp → Bool
 is_dot member.Dot = true
 is_dot op = false
 
-abbrev Layer : Type 0
+abbrev pub Layer : Type 0
 Layer = Expr-F Arg Closure Entry Expr Item Key Label Stmt GString Param Part Case Catch Decl Var
 
 abbrev target_layer : Layer → Bool

@@ -2,4 +2,8 @@ pub mod Phrases
 pub mod Tokens
 pub mod Exprs
 pub mod Meeting
+pub mod Commands
+pub mod Closures
+pub mod Stmts
+pub mod Scripts
 pub mod Examples

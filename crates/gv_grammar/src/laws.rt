@@ -1,16 +1,29 @@
 //! Laws of the grammar: each is a function without a body, whose contract is the law.
 
-ghost use Rattle.std.specs.Prelude.{◌≡◌, ℕ, true, List, ◌∷◌};
+ghost use Rattle.std.specs.Prelude.{◌≡◌, ◌<◌, ℕ, Bool, true, List, ◌∷◌};
+ghost use Rattle.gv_spelling.specs.declared.kinds.Symbol.TheVariants as symbol;
 ghost use Rattle.gv_lex.specs.declared.token.Token.{Token};
 ghost use Rattle.gv_tree.specs.declared.expr.Arg.{Arg};
+ghost use Rattle.gv_tree.specs.declared.expr.Closure.{Closure};
 ghost use Rattle.gv_tree.specs.declared.expr.Entry.{Entry};
 ghost use Rattle.gv_tree.specs.declared.expr.Expr.{Expr};
 ghost use Rattle.gv_tree.specs.declared.expr.GString.{GString};
 ghost use Rattle.gv_tree.specs.declared.expr.Item.{Item};
-ghost use Rattle.gv_tree.specs.declared.expr.Key.{Key};
-ghost use Rattle.gv_grammar.specs.Tokens.{begins_expr};
+ghost use Rattle.gv_tree.specs.declared.expr.Param.{Param};
+ghost use Rattle.gv_tree.specs.declared.stmt.Decl.{Decl};
+ghost use Rattle.gv_tree.specs.declared.stmt.Stmt.{Stmt};
+ghost use Rattle.gv_grammar.specs.Tokens.{begins_expr, kind_of, reach};
 ghost use Rattle.gv_grammar.specs.Phrases.{Takes};
 ghost use Rattle.gv_grammar.specs.Meeting.{Meet, Level, CondGoes, Same};
+ghost use Rattle.gv_grammar.specs.Commands.{IsFull};
+ghost use Rattle.gv_grammar.specs.Stmts.{Reads, IsBodyOf, AreParams, IsValue, IsFullValue, IsDecl, IsStmt, IsBody, IsBlock, AreStmts};
+ghost use Rattle.gv_grammar.specs.Scripts.{IsScript, IsTop, IsClass, IsMethod, AreMembers};
+ghost use Rattle.gv_tree.specs.declared.top.ClassTree.{ClassTree};
+ghost use Rattle.gv_tree.specs.declared.top.Member.{Member};
+ghost use Rattle.gv_tree.specs.declared.top.Method.{Method};
+ghost use Rattle.gv_tree.specs.declared.top.Script.{Script};
+ghost use Rattle.gv_tree.specs.declared.top.Top.{Top};
+ghost use Rattle.gv_tree.specs.declared.expr.Key.{Key};
 ghost use Rattle.gv_grammar.specs.Exprs.{IsExpr, IsCond, IsBin, IsUnary, IsPath, IsPrimary, IsGString, IsKey, AreClosures, AreIndexes, AreArguments, AreElements, AreEntries};
 ghost use Rattle.gv_grammar.specs.Examples.{the_end, sum_tokens, sum_tree, call_tokens, call_tree, map_tokens, map_tree, assignment_tokens, assignment_tree, string_tokens, string_tree};
 
@@ -32,6 +45,12 @@ pub fn readings_meet()
     ensures binaries { (all n : ℕ) (x y : Expr) (ts us vs : List Token) → IsBin all n x ts us → IsBin all n y ts vs → Meet (Level n) x us y vs }
     ensures units { (all : ℕ) (x y : Expr) (ts us vs : List Token) → IsUnary all x ts us → IsUnary all y ts vs → Meet (Level 0) x us y vs }
     ensures paths { (all : ℕ) (x y : Expr) (ts us vs : List Token) → IsPath all x ts us → IsPath all y ts vs → Meet (Level 0) x us y vs }
+{}
+
+/// Two readings of the same tokens as full expressions are one, or one of them ends before a token with
+/// which an expression goes on.
+pub fn one_full()
+    ensures { (all : ℕ) (x y : Expr) (ts us vs : List Token) → IsFull all x ts us → IsFull all y ts vs → Meet (Level 12) x us y vs }
 {}
 
 /// What ends with a token of its own has one reading at most, whatever follows it; so have the closures
@@ -60,6 +79,35 @@ pub fn takes_tokens()
 pub fn begins()
     ensures only { (all : ℕ) (x : Expr) (t : Token) (ts rest : List Token) → IsExpr all x (t ∷ ts) rest → begins_expr t.kind ≡ true }
     ensures each { (all : ℕ) (t : Token) → begins_expr t.kind ≡ true → (x : Expr) × (ts : List Token) × (rest : List Token) × IsExpr all x (t ∷ ts) rest }
+{}
+
+/// Two readings of the same tokens, each of which ends before a token with which no expression goes
+/// on, are one.
+pub fn one_stmt()
+    ensures stmts { (tokens : List Token) (x y : Stmt) (ts us vs : List Token) → IsStmt tokens x ts us → IsStmt tokens y ts vs → 12 < reach (kind_of us) → 12 < reach (kind_of vs) → Same x us y vs }
+    ensures bodies { (tokens : List Token) (x y : Stmt) (ts us vs : List Token) → IsBody tokens x ts us → IsBody tokens y ts vs → 12 < reach (kind_of us) → 12 < reach (kind_of vs) → Same x us y vs }
+    ensures decls { (tokens : List Token) (x y : Decl) (ts us vs : List Token) → IsDecl tokens x ts us → IsDecl tokens y ts vs → 12 < reach (kind_of us) → 12 < reach (kind_of vs) → Same x us y vs }
+    ensures values { (tokens : List Token) (x y : Expr) (ts us vs : List Token) → IsValue tokens x ts us → IsValue tokens y ts vs → 12 < reach (kind_of us) → 12 < reach (kind_of vs) → Same x us y vs }
+    ensures fulls { (tokens : List Token) (x y : Expr) (ts us vs : List Token) → IsFullValue tokens x ts us → IsFullValue tokens y ts vs → 12 < reach (kind_of us) → 12 < reach (kind_of vs) → Same x us y vs }
+{}
+
+/// What ends with a token of its own, or before one, has one reading at most, whatever follows it.
+pub fn one_stmts()
+    ensures stmts { (tokens : List Token) (x y : List Stmt) (ts us vs : List Token) → AreStmts tokens x ts us → AreStmts tokens y ts vs → Same x us y vs }
+    ensures blocks { (tokens : List Token) (x y : List Stmt) (ts us vs : List Token) → IsBlock tokens x ts us → IsBlock tokens y ts vs → Same x us y vs }
+    ensures closures { (tokens : List Token) (x y : Closure) (ts us vs : List Token) → IsBodyOf tokens x ts us → IsBodyOf tokens y ts vs → Same x us y vs }
+    ensures params { (tokens : List Token) (x y : List Param) (ts us vs : List Token) → AreParams tokens symbol.RightParen x ts us → AreParams tokens symbol.RightParen y ts vs → Same x us y vs }
+    ensures arrows { (tokens : List Token) (x y : List Param) (ts us vs : List Token) → AreParams tokens symbol.Arrow x ts us → AreParams tokens symbol.Arrow y ts vs → Same x us y vs }
+    ensures readings { (tokens : List Token) (x y z : Expr) → Reads tokens x y → Reads tokens x z → y ≡ z }
+{}
+
+/// A list of tokens is the script of one tree at most, and likewise each part of it.
+pub fn one_script()
+    ensures scripts { (x y : Script) (ts : List Token) → IsScript x ts → IsScript y ts → x ≡ y }
+    ensures tops { (tokens : List Token) (x y : Top) (ts us vs : List Token) → IsTop tokens x ts us → IsTop tokens y ts vs → 12 < reach (kind_of us) → 12 < reach (kind_of vs) → Same x us y vs }
+    ensures classes { (tokens : List Token) (x y : ClassTree) (ts us vs : List Token) → IsClass tokens x ts us → IsClass tokens y ts vs → Same x us y vs }
+    ensures methods { (tokens : List Token) (x y : Method) (ts us vs : List Token) → IsMethod tokens x ts us → IsMethod tokens y ts vs → Same x us y vs }
+    ensures members { (tokens : List Token) (class : ℕ) (x y : List Member) (ts us vs : List Token) → AreMembers tokens class x ts us → AreMembers tokens class y ts vs → Same x us y vs }
 {}
 
 /// `a + b * c`, `f(x: 1, *y) { }`, `[a: 1, (b): 2, *:c]`, `x = a ? b as int : new T()[0]++` and
