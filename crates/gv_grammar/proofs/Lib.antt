@@ -4,6 +4,7 @@ pub mod Firsts
 pub mod Closures
 pub mod Tails
 pub mod Meets
+pub mod Longest
 pub mod Starts
 pub mod Commands
 pub mod Filling
