@@ -13,3 +13,4 @@ pub mod StmtFirsts
 pub mod Stmts
 pub mod Scripts
 pub mod Derivations
+pub mod LongerOperators

@@ -82,16 +82,16 @@ gstring_of n ps = roll-GString (record { head = n; parts = ps })
 module _ (all : ℕ) where
   -- ---- what ends, where a looser phrase would go on
 
-  expr_stops : {x y : Expr} {us rest : List Token} → GoesExpr all x y us rest → CondGoes x us → (rest ≡ us) × Goes 12 us
+  pub expr_stops : {x y : Expr} {us rest : List Token} → GoesExpr all x y us rest → CondGoes x us → (rest ≡ us) × Goes 12 us
   expr_stops expr_ends g = (refl, record { by = g.within })
   expr_stops (assigns {t = t} p q d) g = let e = reach_assign t.kind p in let i = g.target q in absurd (omega arith)
 
-  cond_stops : {x y : Expr} {us rest : List Token} → GoesCond all x y us rest → Goes 10 us → (rest ≡ us) × CondGoes y us
+  pub cond_stops : {x y : Expr} {us rest : List Token} → GoesCond all x y us rest → Goes 10 us → (rest ≡ us) × CondGoes y us
   cond_stops cond_ends g = let i = g.by in (refl, record { within = omega arith; target = λ _. omega arith })
   cond_stops (chooses q d) g = let e = ap reach (kind_eaten q) in let i = g.by in absurd (omega arith)
   cond_stops (defaults q d) g = let e = ap reach (kind_eaten q) in let i = g.by in absurd (omega arith)
 
-  bin_stops : {n : ℕ} {j : Bool} {x y : Expr} {us rest : List Token} → GoesBin all n j x y us rest → Goes n us → (rest ≡ us) × Goes (suc n) us
+  pub bin_stops : {n : ℕ} {j : Bool} {x y : Expr} {us rest : List Token} → GoesBin all n j x y us rest → Goes n us → (rest ≡ us) × Goes (suc n) us
   bin_stops bin_ends g = let i = g.by in (refl, record { by = omega arith })
   bin_stops (operator {t = t} p q r d h) g = let e = reach_operator t.kind p in let i = g.by in absurd (omega arith)
   bin_stops (typing {t = t} p q r h) g = let e = reach_typing t.kind p in let i = g.by in absurd (omega arith)
