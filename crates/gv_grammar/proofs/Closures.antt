@@ -14,22 +14,22 @@ use Rattle.gv_grammar.specs.Meeting.{Same}
 use Rattle.gv_grammar.specs.Exprs.{Matched, none, token, text, pair, IsClosure, unread, AreClosures, no_closure, one_closure}
 use Rattle.gv_grammar.proofs.Single.{ap2, along, same_rest, eaten_same}
 
-opens_not_closes : (c : TokenKind) {d : Symbol} → closing c ≡ Some d → is_closing c ≡ false
+pub opens_not_closes : (c : TokenKind) {d : Symbol} → closing c ≡ Some d → is_closing c ≡ false
 opens_not_closes (kind.Symbol symbol.RightParen) p = cc
 opens_not_closes (kind.Symbol symbol.RightBracket) p = cc
 opens_not_closes (kind.Symbol symbol.RightBrace) p = cc
 opens_not_closes kind.End p = cc
 opens_not_closes other p = refl
 
-head_not_closes : (c : TokenKind) → is_head c ≡ true → is_closing c ≡ false
+pub head_not_closes : (c : TokenKind) → is_head c ≡ true → is_closing c ≡ false
 head_not_closes (kind.Text (piece.Head f) n) p = refl
 head_not_closes other p = cc
 
-head_not_opens : (c : TokenKind) → is_head c ≡ true → closing c ≡ None
+pub head_not_opens : (c : TokenKind) → is_head c ≡ true → closing c ≡ None
 head_not_opens (kind.Text (piece.Head f) n) p = refl
 head_not_opens other p = cc
 
-matched_once : {ts us vs : List Token} → Matched ts us → Matched ts vs → us ≡ vs
+pub matched_once : {ts us vs : List Token} → Matched ts us → Matched ts vs → us ≡ vs
 matched_once (none p) (none q) = refl
 matched_once (none p) (token q r s n) = cc
 matched_once (none p) (text q n) = let a = head_not_closes _ q in cc

@@ -194,7 +194,7 @@ abbrev pub suffix_class : TokenKind → ℕ
 suffix_class (kind.Symbol s) = symbol_suffix_class s
 suffix_class other = 6
 
-class_member : (c : TokenKind) {op : MemberOp} → member_of c ≡ Some op → suffix_class c ≡ 0
+pub class_member : (c : TokenKind) {op : MemberOp} → member_of c ≡ Some op → suffix_class c ≡ 0
 class_member (kind.Symbol symbol.Dot) p = refl
 class_member (kind.Symbol symbol.SafeDot) p = refl
 class_member (kind.Symbol symbol.SpreadDot) p = refl
@@ -238,7 +238,7 @@ module _ (all : ℕ) where
   pub gstring_key : {g : GString} {ts rest : List Token} → IsGString all g ts rest → key_class (kind_of ts) ≡ 2
   gstring_key d = let a = gstring_first d in ap key_class (a.2)
 
-  keyword_first : {k : Keyword} {ts rest : List Token} → EatsKeyword k ts rest → class (kind_of ts) ≡ keyword_class k
+  pub keyword_first : {k : Keyword} {ts rest : List Token} → EatsKeyword k ts rest → class (kind_of ts) ≡ keyword_class k
   keyword_first (eats_keyword p) = ap class p
 
   abbrev pub number : {x : Expr} {ts rest : List Token} → IsPrimary all x ts rest → ℕ

@@ -83,12 +83,12 @@ of_end (eats_end p) = takes_one
 pub of_as : {A : Type 0} {of : TokenKind → Option A} {x : A} {ts rest : List Token} → EatsAs of x ts rest → Takes 1 ts rest
 of_as (eats_as p) = takes_one
 
-of_texts : (n : ℕ) (ts : List Token) → Takes 0 ts (behind_texts n ts)
+pub of_texts : (n : ℕ) (ts : List Token) → Takes 0 ts (behind_texts n ts)
 of_texts zero ts = takes_none
 of_texts (suc n) [] = takes_none
 of_texts (suc n) (t ∷ ts) = weaken (then takes_one (of_texts (open_behind n t.kind) ts))
 
-of_matched : {ts rest : List Token} → Matched ts rest → Takes 0 ts rest
+pub of_matched : {ts rest : List Token} → Matched ts rest → Takes 0 ts rest
 of_matched (none p) = takes_none
 of_matched (token p q r m) = weaken (then takes_one (of_matched m))
 of_matched (text {ts = ts} p m) = weaken (then takes_one (then (of_texts 1 ts) (of_matched m)))

@@ -14,3 +14,6 @@ pub mod Stmts
 pub mod Scripts
 pub mod Derivations
 pub mod LongerOperators
+pub mod Skipped
+pub mod LongerPaths
+pub mod LongerStrings

@@ -1,11 +1,14 @@
 -- The longest of some phrases: of a head and what it goes on with, of what may end at once, of what ends in one place only.
-use Rattle.std.proofs.Common.{◌≡◌, ◌≢◌, ℕ, ◌≤◌, List, [], ◌∷◌, length, drop, refl, sym, ap, subst, arith, ◌⊎◌, inl, inr}
+use Rattle.std.proofs.Common.{◌≡◌, ◌≢◌, ℕ, ◌≤◌, List, [], ◌∷◌, length, drop, refl, sym, ap, subst, arith, ◌⊎◌, inl, inr, Option, Some, None}
+use Rattle.gv_spelling.specs.declared.kinds.Keyword.{Keyword}
 use Rattle.gv_spelling.specs.declared.kinds.Symbol.{Symbol}
+use Rattle.gv_lex.specs.declared.token.Piece.{Piece}
 use Rattle.gv_lex.specs.declared.token.Token.{Token}
 use Rattle.gv_lex.specs.declared.token.TokenKind.{TokenKind}
 use Rattle.gv_lex.specs.declared.token.TokenKind.TheVariants as kind
+use Rattle.gv_lex.specs.declared.token.Word.TheVariants as word
 use Rattle.gv_tree.specs.declared.expr.Expr.{Expr}
-use Rattle.gv_grammar.specs.Tokens.{Eats, eats, kind_of}
+use Rattle.gv_grammar.specs.Tokens.{Eats, eats, EatsKeyword, eats_keyword, EatsPiece, eats_piece, EatsAs, eats_as, kind_of}
 use Rattle.gv_grammar.specs.Phrases.{Phrase, Longest, Nothing}
 use Rattle.gv_grammar.specs.Meeting.{Meet, one, first_goes_on, second_goes_on, Level, Same}
 use Rattle.gv_grammar.specs.Exprs.{IsExpr}
@@ -73,6 +76,22 @@ token_here (t ∷ ts) e h = (t, refl)
 pub symbol_eaten : {s : Symbol} (ts : List Token) → kind_of ts ≡ kind.Symbol s → Eats s ts (drop 1 ts)
 symbol_eaten [] h = cc
 symbol_eaten (t ∷ ts) h = eats h
+
+pub keyword_here : {k : Keyword} {n : ℕ} (ts : List Token) → kind_of ts ≡ kind.Word (word.Keyword k) n → EatsKeyword k ts (drop 1 ts)
+keyword_here [] h = cc
+keyword_here (t ∷ ts) h = eats_keyword h
+
+pub piece_here : {p : Piece} {n : ℕ} (ts : List Token) → kind_of ts ≡ kind.Text p n → EatsPiece p n ts (drop 1 ts)
+piece_here [] h = cc
+piece_here (t ∷ ts) h = eats_piece h
+
+-- a token that means something, where the end of a list doesn't
+pub as_here : {A : Type 0} {of : TokenKind → Option A} {x : A} (ts : List Token) → of kind.End ≡ None → of (kind_of ts) ≡ Some x → EatsAs of x ts (drop 1 ts)
+as_here [] e h = cc
+as_here (t ∷ ts) e h = eats_as h
+
+pub as_rest : {A : Type 0} {of : TokenKind → Option A} {x : A} {ts rest : List Token} → EatsAs of x ts rest → rest ≡ drop 1 ts
+as_rest (eats_as p) = refl
 
 -- what the longest expression is, where another one ends before a token with which no expression goes on
 pub ended_there : (all : ℕ) {x y : Expr} {ts us vs : List Token} → Longest (IsExpr all) x ts us → IsExpr all y ts vs → Stops vs → Same x us y vs

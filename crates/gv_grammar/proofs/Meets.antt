@@ -73,10 +73,10 @@ joins {Q = Q} {us = vs} {y = z} {rest = zs} (second_goes_on p q) continue f g a 
     let l = ap length (e.0) in
     second_goes_on (subst (Q z) (sym (e.0)) (e.1)) (omega arith)
 
-abbrev part_of : Bool × Expr → ℕ → Part
+abbrev pub part_of : Bool × Expr → ℕ → Part
 part_of v n = roll-Part (record { is_lazy = v.0; value = v.1; behind = n })
 
-abbrev gstring_of : ℕ → List Part → GString
+abbrev pub gstring_of : ℕ → List Part → GString
 gstring_of n ps = roll-GString (record { head = n; parts = ps })
 
 module _ (all : ℕ) where
@@ -138,11 +138,11 @@ module _ (all : ℕ) where
   first_entry (entry_comma d m c) = record { tree = _; rest = _; first = d }
   first_entry (more_entries d m g) = record { tree = _; rest = _; first = d }
 
-  elements_or_colon : {xs : List Item} {ts us rest after : List Token} → ts ≡ us → AreElements all xs ts rest → Eats symbol.Colon us after → ⊥
+  pub elements_or_colon : {xs : List Item} {ts us rest after : List Token} → ts ≡ us → AreElements all xs ts rest → Eats symbol.Colon us after → ⊥
   elements_or_colon e (no_element p) c = let a = apart e p c in cc
   elements_or_colon e (elements d) c = let a = items_below all d in let b = ap spread_class (kind_eaten c) in let h = ap (λ zs. spread_class (kind_of zs)) e in omega arith
 
-  entries_or_colon : {xs : List Entry} {ts us rest after : List Token} → ts ≡ us → AreEntries all xs ts rest → Eats symbol.Colon us after → ⊥
+  pub entries_or_colon : {xs : List Entry} {ts us rest after : List Token} → ts ≡ us → AreEntries all xs ts rest → Eats symbol.Colon us after → ⊥
   entries_or_colon e d c = let a = entries_below all d in let b = ap spread_class (kind_eaten c) in let h = ap (λ zs. spread_class (kind_of zs)) e in omega arith
 
   mutual
@@ -258,7 +258,7 @@ module _ (all : ℕ) where
         record { tree = ap2 (λ v w. expr.Call (place_of ts) x (plain all (v ∷ w))) (a.tree) (b.tree); rest = b.rest }
     meet_suffix s s2 = let a = suffix_first all s in let b = suffix_first all s2 in absurd (omega arith)
 
-    meet_member_name : {x y : Label} {ts us vs : List Token} → IsMemberName all x ts us → IsMemberName all y ts vs → Same x us y vs
+    pub meet_member_name : {x y : Label} {ts us vs : List Token} → IsMemberName all x ts us → IsMemberName all y ts vs → Same x us y vs
     meet_member_name {ts = ts} (member_word p) (member_word p2) =
         let a = as_same p p2 in record { tree = ap (λ w. label.Name (ident (place_of ts) w)) (a.tree); rest = a.rest }
     meet_member_name {ts = ts} (member_text p) (member_text p2) =
@@ -307,7 +307,7 @@ module _ (all : ℕ) where
         let b = meet_parts h (along2 (λ w zs. AreParts all w ps2 zs r2) e (s.rest) h2) in
         record { tree = ap2 (λ w v. w ∷ v) (ap2 part_of (a.tree) (s.text)) (b.tree); rest = b.rest }
 
-    meet_part : {f : Form} {x y : Bool × Expr} {ts us vs : List Token} → IsPart all f x ts us → IsPart all f y ts vs → Same x us y vs
+    pub meet_part : {f : Form} {x y : Bool × Expr} {ts us vs : List Token} → IsPart all f x ts us → IsPart all f y ts vs → Same x us y vs
     meet_part (eager d e) (eager d2 e2) =
         let a = ended (omega arith) (meet_expr d d2) (at_end e) (at_end e2) in record { tree = ap (λ w. (false, w)) (a.tree); rest = end_same (a.rest) e e2 }
     meet_part (eager d e) (lazy p2 d2 e2) = let a = expr_spread all d in let b = ap spread_class (kind_eaten p2) in absurd (omega arith)
