@@ -1,5 +1,5 @@
 -- Loads: how much is open and waits at a token, and the first token where that is too much. Line ends that don't count are gone here.
-use Rattle.std.specs.Prelude.{ℕ, suc, ◌+◌, Bool, true, false, nat_lt, List, [], ◌∷◌, Option, Some, None, if◌then◌else◌}
+use Rattle.std.specs.Prelude.{ℕ, suc, ◌+◌, Bool, true, false, not, nat_lt, List, [], ◌∷◌, Option, Some, None, if◌then◌else◌}
 use Rattle.std.specs.List.{sum_by}
 use Rattle.gv_spelling.specs.declared.kinds.Keyword.{Keyword}
 use Rattle.gv_spelling.specs.declared.kinds.Keyword.TheVariants as keyword
@@ -53,11 +53,12 @@ abbrev pub line_resets : Before → Bool
 line_resets HeadEnd = false
 line_resets before = true
 
-abbrev pub resets : Before → TokenKind → Bool
-resets before (kind.Symbol symbol.Comma) = true
-resets before (kind.Symbol symbol.Semicolon) = true
-resets before kind.LineEnd = line_resets before
-resets before k = false
+-- a comma begins the count anew in a list alone
+abbrev pub resets : Level → TokenKind → Bool
+resets l (kind.Symbol symbol.Comma) = l.list
+resets l (kind.Symbol symbol.Semicolon) = true
+resets l kind.LineEnd = line_resets l.before
+resets l k = false
 
 abbrev pub of_keyword : Before → Keyword → Before
 of_keyword Dot k = Other
@@ -91,17 +92,20 @@ before_behind before kind.End = Other
 -- the level behind a token that stands in it
 abbrev pub counted : Level → TokenKind → Level
 counted l k = record l {
-  count = if resets l.before k then 0 else if counts l.before k then suc l.count else l.count;
+  count = if resets l k then 0 else if counts l.before k then suc l.count else l.count;
   before = before_behind l.before k;
 }
 
 -- ---- levels
 
-abbrev pub new_level : Bool → Level
-new_level head = record { base = 0; count = 0; before = Other; head = head; part = false }
+abbrev pub new_level : Level
+new_level = record { base = 0; count = 0; before = Other; list = false; head = false; part = false }
+
+abbrev pub list_level : Bool → Level
+list_level head = record new_level { list = not head; head = head }
 
 abbrev pub part_level : Level
-part_level = record { base = 1; count = 0; before = Other; head = false; part = true }
+part_level = record new_level { base = 1; part = true }
 
 abbrev pub is_head_word : Before → Bool
 is_head_word HeadWord = true
@@ -125,9 +129,9 @@ part_ended (l ∷ m ∷ levels) = if l.part then m ∷ levels else part_ended (m
 
 -- the levels around the next token, where this one, counted already, stands in the first of these
 abbrev pub levels_behind : Before → Level → List Level → TokenKind → List Level
-levels_behind before l levels (kind.Symbol symbol.LeftParen) = new_level (is_head_word before) ∷ l ∷ levels
-levels_behind before l levels (kind.Symbol symbol.LeftBracket) = new_level false ∷ l ∷ levels
-levels_behind before l levels (kind.Symbol symbol.LeftBrace) = new_level false ∷ l ∷ levels
+levels_behind before l levels (kind.Symbol symbol.LeftParen) = list_level (is_head_word before) ∷ l ∷ levels
+levels_behind before l levels (kind.Symbol symbol.LeftBracket) = list_level false ∷ l ∷ levels
+levels_behind before l levels (kind.Symbol symbol.LeftBrace) = new_level ∷ l ∷ levels
 levels_behind before l levels (kind.Symbol symbol.RightParen) = closed l levels
 levels_behind before l levels (kind.Symbol symbol.RightBracket) = closed l levels
 levels_behind before l levels (kind.Symbol symbol.RightBrace) = closed l levels
@@ -145,7 +149,7 @@ too_deep_from (l ∷ levels) (t ∷ ts) =
     else too_deep_from (levels_behind l.before (counted l t.kind) levels t.kind) ts
 
 abbrev pub start : List Level
-start = new_level false ∷ []
+start = new_level ∷ []
 
 abbrev pub too_deep : List Token → Option Token
 too_deep ts = too_deep_from start ts

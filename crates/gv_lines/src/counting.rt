@@ -12,7 +12,7 @@ pub fn counted(level: Level, kind: TokenKind) -> Level
     requires { level.count ≤ MOST_LOAD + 1 }
     ensures { result ≡ spec.counted level kind }
 {
-    let count = if resets(level.before, kind) {
+    let count = if resets(level, kind) {
         0
     } else if counts(level.before, kind) {
         level.count + 1
@@ -59,12 +59,13 @@ fn symbol_counts(symbol: Symbol) -> bool
     )
 }
 
-fn resets(before: Before, kind: TokenKind) -> bool
-    ensures { result ≡ spec.resets before kind }
+fn resets(level: Level, kind: TokenKind) -> bool
+    ensures { result ≡ spec.resets level kind }
 {
     match kind {
-        TokenKind::Symbol(Symbol::Comma | Symbol::Semicolon) => true,
-        TokenKind::LineEnd => !matches!(before, Before::HeadEnd),
+        TokenKind::Symbol(Symbol::Comma) => level.list,
+        TokenKind::Symbol(Symbol::Semicolon) => true,
+        TokenKind::LineEnd => !matches!(level.before, Before::HeadEnd),
         _ => false,
     }
 }

@@ -34,9 +34,11 @@ pub enum Before {
 pub struct Level {
     /// 1 for a part of a string, so that strings in strings add up.
     pub base: usize,
-    /// How many tokens were counted since the last `,`, `;` or line end.
+    /// How many tokens were counted since the last `;` or line end, or `,` of a list.
     pub count: usize,
     pub before: Before,
+    /// Whether it is a list: `( )` that is no head, or `[ ]`.
+    pub list: bool,
     /// Whether it is the head of an `if`, a `while` or a `for`.
     pub head: bool,
     /// Whether it is a part of a string.
@@ -73,7 +75,7 @@ impl Loads {
         ensures summed { IsSummed result }
     {
         Loads {
-            innermost: new_level(false),
+            innermost: new_level(),
             around: Vec::new(alloc),
             load_around: 0,
         }
@@ -103,11 +105,10 @@ impl Loads {
     {
         match kind {
             TokenKind::Symbol(Symbol::LeftParen) => {
-                self.open(new_level(matches!(before, Before::HeadWord)))?
+                self.open(list_level(matches!(before, Before::HeadWord)))?
             }
-            TokenKind::Symbol(Symbol::LeftBracket | Symbol::LeftBrace) => {
-                self.open(new_level(false))?
-            }
+            TokenKind::Symbol(Symbol::LeftBracket) => self.open(list_level(false))?,
+            TokenKind::Symbol(Symbol::LeftBrace) => self.open(new_level())?,
             TokenKind::Symbol(Symbol::RightParen | Symbol::RightBracket | Symbol::RightBrace) => {
                 self.close()
             }
@@ -180,15 +181,26 @@ impl Loads {
     }
 }
 
-fn new_level(head: bool) -> Level
-    ensures { result ≡ spec.new_level head }
+fn new_level() -> Level
+    ensures { result ≡ spec.new_level }
 {
     Level {
         base: 0,
         count: 0,
         before: Before::Other,
-        head,
+        list: false,
+        head: false,
         part: false,
+    }
+}
+
+fn list_level(head: bool) -> Level
+    ensures { result ≡ spec.list_level head }
+{
+    Level {
+        list: !head,
+        head,
+        ..new_level()
     }
 }
 
@@ -198,6 +210,6 @@ fn part_level() -> Level
     Level {
         base: 1,
         part: true,
-        ..new_level(false)
+        ..new_level()
     }
 }
