@@ -40,7 +40,7 @@ pub use names::Names;
 pub use numbers::arith;
 pub use outcome::{Arith, ArithOp};
 pub use plain::{plain_equal, plain_hash, plain_truth};
-pub use refusal::{Place, Refusal, RefusalKind};
+pub use refusal::{Foreign, Place, Refusal, RefusalKind};
 pub use std::alloc::AllocError as OutOfMemory;
 pub use steps::Steps;
 pub use text::Text;

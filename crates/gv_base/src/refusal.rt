@@ -1,5 +1,5 @@
 ghost use Rattle.std.specs.Prelude.{◌≡◌};
-ghost use Rattle.gv_base.specs.Refusal.{number_of, text_of};
+ghost use Rattle.gv_base.specs.Refusal.{number_of, text_of, foreign_text};
 
 /// A place in a file.
 #[derive(Clone, Copy, Debug, PartialEq, Eq)]
@@ -10,6 +10,96 @@ pub struct Place {
     pub line: u32,
     /// The column in characters, counted from 1.
     pub column: u32,
+}
+
+/// A word or a symbol of Groovy that the profile refuses.
+#[derive(Clone, Copy, Debug, PartialEq, Eq)]
+pub enum Foreign {
+    /// `abstract`
+    Abstract,
+    /// `byte`
+    Byte,
+    /// `char`
+    Char,
+    /// `const`
+    Const,
+    /// `do`
+    Do,
+    /// `double`
+    Double,
+    /// `enum`
+    Enum,
+    /// `float`
+    Float,
+    /// `goto`
+    Goto,
+    /// `interface`
+    Interface,
+    /// `native`
+    Native,
+    /// `package`
+    Package,
+    /// `short`
+    Short,
+    /// `strictfp`
+    Strictfp,
+    /// `synchronized`
+    Synchronized,
+    /// `throws`
+    Throws,
+    /// `trait`
+    Trait,
+    /// `transient`
+    Transient,
+    /// `volatile`
+    Volatile,
+    /// `**`
+    Power,
+    /// `**=`
+    PowerAssign,
+    /// `~`
+    Tilde,
+    /// `=~`
+    Find,
+    /// `==~`
+    Match,
+    /// `===`
+    Identical,
+}
+
+impl Foreign {
+    /// What the error line says of it.
+    fn text(self) -> &'static str
+        ensures { result.now ≡ foreign_text self }
+    {
+        match self {
+            Foreign::Abstract => "not in this profile: abstract",
+            Foreign::Byte => "not in this profile: byte",
+            Foreign::Char => "not in this profile: char",
+            Foreign::Const => "not in this profile: const",
+            Foreign::Do => "not in this profile: do",
+            Foreign::Double => "not in this profile: double",
+            Foreign::Enum => "not in this profile: enum",
+            Foreign::Float => "not in this profile: float",
+            Foreign::Goto => "not in this profile: goto",
+            Foreign::Interface => "not in this profile: interface",
+            Foreign::Native => "not in this profile: native",
+            Foreign::Package => "not in this profile: package",
+            Foreign::Short => "not in this profile: short",
+            Foreign::Strictfp => "not in this profile: strictfp",
+            Foreign::Synchronized => "not in this profile: synchronized",
+            Foreign::Throws => "not in this profile: throws",
+            Foreign::Trait => "not in this profile: trait",
+            Foreign::Transient => "not in this profile: transient",
+            Foreign::Volatile => "not in this profile: volatile",
+            Foreign::Power => "not in this profile: **",
+            Foreign::PowerAssign => "not in this profile: **=",
+            Foreign::Tilde => "not in this profile: ~",
+            Foreign::Find => "not in this profile: =~",
+            Foreign::Match => "not in this profile: ==~",
+            Foreign::Identical => "not in this profile: ===",
+        }
+    }
 }
 
 /// Why a file isn't run.
@@ -33,6 +123,14 @@ pub enum RefusalKind {
     SlashyString,
     /// A `$` that begins no part of a string, or a `${` without its `}`.
     UnendedInterpolation,
+    /// A token that goes on with no script, or the end of the file there.
+    UnexpectedToken,
+    /// A `/` or `/=` there.
+    PlainDivision,
+    /// A word or a symbol there that the profile refuses.
+    NotInProfile(Foreign),
+    /// A token inside too much that is open.
+    NestedTooDeep,
     /// A script of a form that can't be run yet.
     NotBuilt,
 }
@@ -52,6 +150,10 @@ impl RefusalKind {
             RefusalKind::StrayCharacter => 7,
             RefusalKind::SlashyString => 8,
             RefusalKind::UnendedInterpolation => 9,
+            RefusalKind::UnexpectedToken => 10,
+            RefusalKind::PlainDivision => 11,
+            RefusalKind::NotInProfile(_) => 12,
+            RefusalKind::NestedTooDeep => 13,
             RefusalKind::NotBuilt => 40,
         }
     }
@@ -70,6 +172,10 @@ impl RefusalKind {
             RefusalKind::StrayCharacter => "stray character",
             RefusalKind::SlashyString => "slashy string",
             RefusalKind::UnendedInterpolation => "interpolation not ended",
+            RefusalKind::UnexpectedToken => "unexpected token",
+            RefusalKind::PlainDivision => "plain division",
+            RefusalKind::NotInProfile(foreign) => foreign.text(),
+            RefusalKind::NestedTooDeep => "nested too deep",
             RefusalKind::NotBuilt => "not built yet",
         }
     }

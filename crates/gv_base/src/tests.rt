@@ -5,7 +5,7 @@ use crate::ArithOp::{
 };
 use crate::Value::{Bool, Class, Int, Long, Null, Obj};
 use crate::{
-    Arith, ExceptionKind, Names, RefusalKind, Steps, Text, arith, plain_equal, plain_hash,
+    Arith, ExceptionKind, Foreign, Names, RefusalKind, Steps, Text, arith, plain_equal, plain_hash,
     plain_truth,
 };
 use std::marker::Brand;
@@ -201,6 +201,11 @@ fn texts(rt: HostRuntime) -> Result<(), Fail> {
     assert!(rt; text == same);
     let kind = RefusalKind::LiteralPast64Bits;
     assert_eq!(rt; (kind.number(), kind.text()), (6, "literal past 64 bits"));
+    let foreign = RefusalKind::NotInProfile(Foreign::Identical);
+    assert_eq!(rt;
+        (foreign.number(), foreign.text()),
+        (12, "not in this profile: ===")
+    );
     assert_eq!(rt;
         ExceptionKind::ArithmeticException.name(),
         "ArithmeticException"
