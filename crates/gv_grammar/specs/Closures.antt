@@ -1,18 +1,18 @@
 -- The unread closures of an expression, and the expression with them read.
-use Rattle.std.specs.Prelude.{ℕ, List, [], ◌∷◌, ◌++◌, Some, None}
+use Rattle.std.specs.Prelude.{ℕ, ◌<◌, ◌≤◌, ◌-◌, List, [], ◌∷◌, ◌++◌, Some, None}
 use Rattle.std.specs.List.{flat_map, Contains}
-use Rattle.gv_tree.specs.declared.expr.Arg.{Arg, roll-Arg}
+use Rattle.gv_tree.specs.declared.expr.Arg.{Arg, roll-Arg, fold-Arg}
 use Rattle.gv_tree.specs.declared.expr.Arg.TheOpen.{Arg-F, Closure-F, Entry-F, Expr-F, Item-F, Key-F, Label-F, Stmt-F, GString-F, Param-F, Part-F, Case-F, Catch-F, Decl-F, Var-F}
-use Rattle.gv_tree.specs.declared.expr.Closure.{Closure}
+use Rattle.gv_tree.specs.declared.expr.Closure.{Closure, fold-Closure}
 use Rattle.gv_tree.specs.declared.expr.Closure.TheVariants as closure
-use Rattle.gv_tree.specs.declared.expr.Entry.{Entry, roll-Entry}
+use Rattle.gv_tree.specs.declared.expr.Entry.{Entry, roll-Entry, fold-Entry}
 use Rattle.gv_tree.specs.declared.expr.Expr.{Expr, roll-Expr, fold-Expr}
-use Rattle.gv_tree.specs.declared.expr.GString.{GString, roll-GString}
-use Rattle.gv_tree.specs.declared.expr.Item.{Item, roll-Item}
-use Rattle.gv_tree.specs.declared.expr.Key.{Key, roll-Key}
-use Rattle.gv_tree.specs.declared.expr.Label.{Label, roll-Label}
+use Rattle.gv_tree.specs.declared.expr.GString.{GString, roll-GString, fold-GString}
+use Rattle.gv_tree.specs.declared.expr.Item.{Item, roll-Item, fold-Item}
+use Rattle.gv_tree.specs.declared.expr.Key.{Key, roll-Key, fold-Key}
+use Rattle.gv_tree.specs.declared.expr.Label.{Label, roll-Label, fold-Label}
 use Rattle.gv_tree.specs.declared.expr.Param.{Param, roll-Param}
-use Rattle.gv_tree.specs.declared.expr.Part.{Part, roll-Part}
+use Rattle.gv_tree.specs.declared.expr.Part.{Part, roll-Part, fold-Part}
 use Rattle.gv_tree.specs.declared.stmt.Case.{Case, roll-Case}
 use Rattle.gv_tree.specs.declared.stmt.Catch.{Catch, roll-Catch}
 use Rattle.gv_tree.specs.declared.stmt.Decl.{Decl, roll-Decl}
@@ -27,6 +27,39 @@ read_layer read (Closure-F.Read params body) = closure.Read None []
 -- the expression with each unread closure replaced by what is read between its places
 unfoldable pub filled : (ℕ → ℕ → Closure) → Expr → Expr
 filled read = fold-Expr Arg Closure Entry Expr Item Key Label Stmt GString Param Part Case Catch Decl Var
+    roll-Arg (read_layer read) roll-Entry roll-Expr roll-Item roll-Key roll-Label roll-Stmt roll-GString roll-Param roll-Part roll-Case roll-Catch roll-Decl roll-Var
+
+-- the same for the parts of expressions
+unfoldable pub filled_arg : (ℕ → ℕ → Closure) → Arg → Arg
+filled_arg read = fold-Arg Arg Closure Entry Expr Item Key Label Stmt GString Param Part Case Catch Decl Var
+    roll-Arg (read_layer read) roll-Entry roll-Expr roll-Item roll-Key roll-Label roll-Stmt roll-GString roll-Param roll-Part roll-Case roll-Catch roll-Decl roll-Var
+
+unfoldable pub filled_entry : (ℕ → ℕ → Closure) → Entry → Entry
+filled_entry read = fold-Entry Arg Closure Entry Expr Item Key Label Stmt GString Param Part Case Catch Decl Var
+    roll-Arg (read_layer read) roll-Entry roll-Expr roll-Item roll-Key roll-Label roll-Stmt roll-GString roll-Param roll-Part roll-Case roll-Catch roll-Decl roll-Var
+
+unfoldable pub filled_item : (ℕ → ℕ → Closure) → Item → Item
+filled_item read = fold-Item Arg Closure Entry Expr Item Key Label Stmt GString Param Part Case Catch Decl Var
+    roll-Arg (read_layer read) roll-Entry roll-Expr roll-Item roll-Key roll-Label roll-Stmt roll-GString roll-Param roll-Part roll-Case roll-Catch roll-Decl roll-Var
+
+unfoldable pub filled_key : (ℕ → ℕ → Closure) → Key → Key
+filled_key read = fold-Key Arg Closure Entry Expr Item Key Label Stmt GString Param Part Case Catch Decl Var
+    roll-Arg (read_layer read) roll-Entry roll-Expr roll-Item roll-Key roll-Label roll-Stmt roll-GString roll-Param roll-Part roll-Case roll-Catch roll-Decl roll-Var
+
+unfoldable pub filled_label : (ℕ → ℕ → Closure) → Label → Label
+filled_label read = fold-Label Arg Closure Entry Expr Item Key Label Stmt GString Param Part Case Catch Decl Var
+    roll-Arg (read_layer read) roll-Entry roll-Expr roll-Item roll-Key roll-Label roll-Stmt roll-GString roll-Param roll-Part roll-Case roll-Catch roll-Decl roll-Var
+
+unfoldable pub filled_gstring : (ℕ → ℕ → Closure) → GString → GString
+filled_gstring read = fold-GString Arg Closure Entry Expr Item Key Label Stmt GString Param Part Case Catch Decl Var
+    roll-Arg (read_layer read) roll-Entry roll-Expr roll-Item roll-Key roll-Label roll-Stmt roll-GString roll-Param roll-Part roll-Case roll-Catch roll-Decl roll-Var
+
+unfoldable pub filled_part : (ℕ → ℕ → Closure) → Part → Part
+filled_part read = fold-Part Arg Closure Entry Expr Item Key Label Stmt GString Param Part Case Catch Decl Var
+    roll-Arg (read_layer read) roll-Entry roll-Expr roll-Item roll-Key roll-Label roll-Stmt roll-GString roll-Param roll-Part roll-Case roll-Catch roll-Decl roll-Var
+
+unfoldable pub filled_closure : (ℕ → ℕ → Closure) → Closure → Closure
+filled_closure read = fold-Closure Arg Closure Entry Expr Item Key Label Stmt GString Param Part Case Catch Decl Var
     roll-Arg (read_layer read) roll-Entry roll-Expr roll-Item roll-Key roll-Label roll-Stmt roll-GString roll-Param roll-Part roll-Case roll-Catch roll-Decl roll-Var
 
 -- ---- where the unread closures are
@@ -116,5 +149,44 @@ unfoldable pub unread_places : Expr → Found
 unread_places = fold-Expr Found Found Found Found Found Found Found Found Found Found Found Found Found Found Found
     in_arg in_closure in_entry in_expr in_item in_key in_label none_in_stmt in_gstring none_in_param in_part none_in_case none_in_catch none_in_decl none_in_var
 
+-- and of the closures in the parts of expressions
+unfoldable pub arg_places : Arg → Found
+arg_places = fold-Arg Found Found Found Found Found Found Found Found Found Found Found Found Found Found Found
+    in_arg in_closure in_entry in_expr in_item in_key in_label none_in_stmt in_gstring none_in_param in_part none_in_case none_in_catch none_in_decl none_in_var
+
+unfoldable pub entry_places : Entry → Found
+entry_places = fold-Entry Found Found Found Found Found Found Found Found Found Found Found Found Found Found Found
+    in_arg in_closure in_entry in_expr in_item in_key in_label none_in_stmt in_gstring none_in_param in_part none_in_case none_in_catch none_in_decl none_in_var
+
+unfoldable pub item_places : Item → Found
+item_places = fold-Item Found Found Found Found Found Found Found Found Found Found Found Found Found Found Found
+    in_arg in_closure in_entry in_expr in_item in_key in_label none_in_stmt in_gstring none_in_param in_part none_in_case none_in_catch none_in_decl none_in_var
+
+unfoldable pub key_places : Key → Found
+key_places = fold-Key Found Found Found Found Found Found Found Found Found Found Found Found Found Found Found
+    in_arg in_closure in_entry in_expr in_item in_key in_label none_in_stmt in_gstring none_in_param in_part none_in_case none_in_catch none_in_decl none_in_var
+
+unfoldable pub label_places : Label → Found
+label_places = fold-Label Found Found Found Found Found Found Found Found Found Found Found Found Found Found Found
+    in_arg in_closure in_entry in_expr in_item in_key in_label none_in_stmt in_gstring none_in_param in_part none_in_case none_in_catch none_in_decl none_in_var
+
+unfoldable pub gstring_places : GString → Found
+gstring_places = fold-GString Found Found Found Found Found Found Found Found Found Found Found Found Found Found Found
+    in_arg in_closure in_entry in_expr in_item in_key in_label none_in_stmt in_gstring none_in_param in_part none_in_case none_in_catch none_in_decl none_in_var
+
+unfoldable pub part_places : Part → Found
+part_places = fold-Part Found Found Found Found Found Found Found Found Found Found Found Found Found Found Found
+    in_arg in_closure in_entry in_expr in_item in_key in_label none_in_stmt in_gstring none_in_param in_part none_in_case none_in_catch none_in_decl none_in_var
+
+unfoldable pub closure_places : Closure → Found
+closure_places = fold-Closure Found Found Found Found Found Found Found Found Found Found Found Found Found Found Found
+    in_arg in_closure in_entry in_expr in_item in_key in_label none_in_stmt in_gstring none_in_param in_part none_in_case none_in_catch none_in_decl none_in_var
+
 abbrev pub unread_in : Expr → ℕ → ℕ → Type 0
 unread_in x from to = Contains (unread_places x) (from, to)
+
+-- these lie in a list of so many tokens, with fewer than so many between the two of a closure
+pub record Within (all below : ℕ) (places : Found) : Type 0 where
+  pub ordered : (from to : ℕ) → Contains places (from, to) → from ≤ to
+  pub inside : (from to : ℕ) → Contains places (from, to) → to ≤ all
+  pub fewer : (from to : ℕ) → Contains places (from, to) → to - from < below
