@@ -185,8 +185,8 @@ closure_places = fold-Closure Found Found Found Found Found Found Found Found Fo
 abbrev pub unread_in : Expr → ℕ → ℕ → Type 0
 unread_in x from to = Contains (unread_places x) (from, to)
 
--- these lie in a list of so many tokens, with fewer than so many between the two of a closure
+-- these lie in a list of so many tokens, with fewer than so many from the first of a closure on
 pub record Within (all below : ℕ) (places : Found) : Type 0 where
   pub ordered : (from to : ℕ) → Contains places (from, to) → from ≤ to
   pub inside : (from to : ℕ) → Contains places (from, to) → to ≤ all
-  pub fewer : (from to : ℕ) → Contains places (from, to) → to - from < below
+  pub fewer : (from to : ℕ) → Contains places (from, to) → all - from < below
