@@ -17,3 +17,4 @@ pub mod LongerOperators
 pub mod Skipped
 pub mod LongerPaths
 pub mod LongerStrings
+pub mod Places
