@@ -89,15 +89,15 @@ stays_before {ts = ts} h p g = let a = g.by in let b = arguments_stop (kind_of t
 module _ (all : ℕ) where
   -- ---- each takes tokens
 
-  of_carg : {a : Arg} {ts rest : List Token} → IsCommandArg all a ts rest → Takes 1 ts rest
+  pub of_carg : {a : Arg} {ts rest : List Token} → IsCommandArg all a ts rest → Takes 1 ts rest
   of_carg (plain_carg d n) = of_cond all d
   of_carg (keyed_carg k c d) = then (of_key all k) (then (of_eats c) (of_cond all d))
 
-  of_cargs : {args : List Arg} {ts rest : List Token} → AreCommandArgs all args ts rest → Takes 1 ts rest
+  pub of_cargs : {args : List Arg} {ts rest : List Token} → AreCommandArgs all args ts rest → Takes 1 ts rest
   of_cargs (last_carg d n) = of_carg d
   of_cargs (more_cargs d c g) = then (of_carg d) (then (of_eats c) (of_cargs g))
 
-  of_link : {x y : Expr} {ts rest : List Token} → IsLink all x y ts rest → Takes 1 ts rest
+  pub of_link : {x y : Expr} {ts rest : List Token} → IsLink all x y ts rest → Takes 1 ts rest
   of_link (link_args p b d) = then (of_as p) (of_cargs d)
   of_link (link_call p b s) = then (of_as p) (of_suffix all s)
 

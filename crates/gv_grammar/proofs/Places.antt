@@ -1,9 +1,10 @@
 -- The unread closures of a reading lie among its tokens.
-use Rattle.std.proofs.Common.{◌≡◌, ℕ, ◌<◌, ◌≤◌, ◌-◌, Bool, List, [], ◌∷◌, ◌++◌, length, map, ap, arith, inl, inr}
-use Rattle.std.specs.List.{Contains}
+use Rattle.std.proofs.Common.{◌≡◌, ℕ, ◌<◌, ◌≤◌, ◌-◌, Bool, List, [], ◌∷◌, ◌++◌, length, map, refl, ap, arith, inl, inr}
+use Rattle.std.specs.List.{Contains, flat_map}
 use Rattle.std.proofs.lemmas.List.{map-append}
-use Rattle.std.proofs.lemmas.List.Elements.{Contains-append_cases, Contains-push_cases}
+use Rattle.std.proofs.lemmas.List.Elements.{Contains-append_cases, Contains-append_right, Contains-push_cases}
 use Rattle.std.proofs.lemmas.Grind.{flat_map-append}
+use Rattle.gv_base.specs.declared.refusal.Place.{Place}
 use Rattle.gv_lex.specs.declared.token.Part.{Part as Form}
 use Rattle.gv_lex.specs.declared.token.Token.{Token}
 use Rattle.gv_tree.specs.declared.expr.Arg.{Arg, fold-roll-Arg}
@@ -22,10 +23,14 @@ use Rattle.gv_tree.specs.declared.expr.Key.TheVariants as key
 use Rattle.gv_tree.specs.declared.expr.Label.{Label, fold-roll-Label}
 use Rattle.gv_tree.specs.declared.expr.Label.TheVariants as label
 use Rattle.gv_tree.specs.declared.expr.Part.{Part, fold-roll-Part}
+use Rattle.gv_tree.specs.declared.ops.Ident.{Ident}
+use Rattle.gv_tree.specs.declared.ops.MemberOp.{MemberOp}
 use Rattle.gv_grammar.specs.Phrases.{Takes}
 use Rattle.gv_grammar.specs.Exprs.{IsClosure, unread, AreClosures, no_closure, one_closure, plain, IsExpr, an_expr, GoesExpr, expr_ends, assigns, IsCond, a_cond, GoesCond, cond_ends, chooses, defaults, AreChoices, choices, IsBin, tightest, a_bin, GoesBin, bin_ends, operator, typing, IsUnary, prefix, no_prefix, IsPath, a_path, GoesPath, path_ends, suffix, IsSuffix, a_member, a_field, postfix, index, call, closures, IsMemberName, member_word, member_text, member_gstring, IsKey, key_word, key_text, key_gstring, key_int, key_long, IsGString, gstring, AreParts, last_part, more_parts, IsPart, eager, lazy, names, GoesNames, names_end, one_name, AreIndexes, last_index, more_indexes, AreArguments, no_argument, arguments, AreArgs, last_arg, more_args, IsArg, plain_arg, keyed_arg, spread_arg, spread_map_arg, AreElements, no_element, elements, AreItems, last_item, item_comma, more_items, IsItem, plain_item, spread_item, AreEntries, last_entry, entry_comma, more_entries, IsEntry, keyed_entry, computed_entry, spread_entry, IsPrimary, an_atom, a_gstring, parens, a_list, empty_map, a_map, a_closure, a_new}
-use Rattle.gv_grammar.specs.Closures.{Found, all_found, unread_places, arg_places, closure_places, entry_places, item_places, key_places, label_places, gstring_places, part_places, Within}
-use Rattle.gv_grammar.proofs.Lengths.{takes_one, then, no_more, less, of_eats, of_as, of_keyword, of_piece, of_matched, of_closure, of_expr, of_cond, of_choices, of_bin, of_unary, of_primary, of_suffix, of_key, of_part, of_arguments, of_arg, of_item, of_entry}
+use Rattle.gv_grammar.specs.Commands.{IsCommandArg, plain_carg, keyed_carg, AreCommandArgs, last_carg, more_cargs, IsLink, link_args, link_call, IsProperty, last_name, GoesCommand, command_ends, command_link, command_name, IsCommand, with_args, with_link, with_name, IsFull, full_cond, full_assign, full_command}
+use Rattle.gv_grammar.specs.Closures.{Found, all_found, unread_places, arg_places, entry_places, item_places, key_places, label_places, gstring_places, part_places, Within}
+use Rattle.gv_grammar.proofs.Lengths.{takes_one, then, no_more, less, of_eats, of_as, of_keyword, of_piece, of_matched, of_closure, of_expr, of_cond, of_bin, of_path, of_primary, of_suffix, of_key, of_part, of_arguments, of_arg, of_item, of_entry}
+use Rattle.gv_grammar.proofs.Commands.{of_carg, of_cargs, of_link}
 
 -- ---- what lies within
 
@@ -52,6 +57,11 @@ one h i j = record {
   inside = λ x y c. let e = alone c in let b = e.1 in omega arith;
   fewer = λ x y c. let e = alone c in let a = e.0 in omega arith;
 }
+
+-- of each element of a list
+pub each : {A : Type 0} (f : A → Found) {all n : ℕ} (xs : List A) → ((x : A) → Contains xs x → Within all n (f x)) → Within all n (flat_map f xs)
+each f [] h = nowhere
+each f (x ∷ xs) h = both (h x (0, omega arith, refl)) (each f xs (λ y c. h y (Contains-append_right (x ∷ []) xs y c)))
 
 -- of the elements of two lists
 row : {A : Type 0} (places : A → Found) {all n : ℕ} (xs ys : List A) → Within all n (all_found (map places xs)) → Within all n (all_found (map places ys)) → Within all n (all_found (map places (xs ++ ys)))
@@ -80,10 +90,13 @@ module _ (all : ℕ) where
   closures_within (no_closure f) = nowhere
   closures_within (one_closure c d) = both (rw (← arg.rolls-Plain, fold-roll-Arg) (closure_within c)) (after (of_closure all c) (closures_within d))
 
-  pub names_within : {n : ℕ} {x y : Expr} {ts rest : List Token} → GoesNames all x y ts rest → Within all n (unread_places x) → Within all n (unread_places y)
+  named : {n : ℕ} (p : Place) (op : MemberOp) (x : Expr) (i : Ident) → Within all n (unread_places x) → Within all n (unread_places (expr.Member p op x (label.Name i)))
   unfolding unread_places
+  named p op x i w = rw (← expr.rolls-Member, fold-roll-Expr, ← label.rolls-Name, fold-roll-Label) (both w nowhere)
+
+  pub names_within : {n : ℕ} {x y : Expr} {ts rest : List Token} → GoesNames all x y ts rest → Within all n (unread_places x) → Within all n (unread_places y)
   names_within names_end w = w
-  names_within (one_name d n g) w = names_within g (rw (← expr.rolls-Member, fold-roll-Expr, ← label.rolls-Name, fold-roll-Label) (both w nowhere))
+  names_within (one_name d n g) w = names_within g (named _ _ _ _ w)
 
   -- ---- the phrases
 
@@ -215,3 +228,40 @@ module _ (all : ℕ) where
     primary_within (a_map p d) = rw (← expr.rolls-Map, fold-roll-Expr) (after (of_eats p) (entries_within d))
     primary_within (a_closure d) = closure_within d
     primary_within (a_new p n o d) = rw (← expr.rolls-New, fold-roll-Expr) (after (then (of_keyword p) (then (of_as n) (of_eats o))) (arguments_within d))
+
+  -- ---- commands and full expressions
+
+  pub carg_within : {a : Arg} {ts rest : List Token} → IsCommandArg all a ts rest → Within all (length ts) (arg_places a)
+  unfolding arg_places key_places unread_places
+  carg_within (plain_carg d n) = rw (← arg.rolls-Plain, fold-roll-Arg) (cond_within d)
+  carg_within (keyed_carg k c d) = rw (← arg.rolls-Keyed, fold-roll-Arg) (both (key_within k) (after (then (of_key all k) (of_eats c)) (cond_within d)))
+
+  pub cargs_within : {args : List Arg} {ts rest : List Token} → AreCommandArgs all args ts rest → Within all (length ts) (all_found (map arg_places args))
+  cargs_within (last_carg d n) = both (carg_within d) nowhere
+  cargs_within (more_cargs d c g) = both (carg_within d) (after (then (of_carg all d) (of_eats c)) (cargs_within g))
+
+  pub link_within : {n : ℕ} {x y : Expr} {ts rest : List Token} → IsLink all x y ts rest → Within all n (unread_places x) → length ts ≤ n → Within all n (unread_places y)
+  unfolding unread_places arg_places
+  link_within (link_args p b d) w h = rw (← expr.rolls-Call, fold-roll-Expr) (both (named _ _ _ _ w) (within (of_as p) h (cargs_within d)))
+  link_within (link_call p b s) w h = suffix_within s (named _ _ _ _ w) (still (of_as p) h)
+
+  pub property_within : {n : ℕ} {x y : Expr} {ts rest : List Token} → IsProperty all x y ts rest → Within all n (unread_places x) → Within all n (unread_places y)
+  property_within (last_name p f g) w = named _ _ _ _ w
+
+  pub goes_command_within : {n : ℕ} {x y : Expr} {ts rest : List Token} → GoesCommand all x y ts rest → Within all n (unread_places x) → length ts ≤ n → Within all n (unread_places y)
+  goes_command_within (command_ends f) w h = w
+  goes_command_within (command_link l g) w h = goes_command_within g (link_within l w h) (still (of_link all l) h)
+  goes_command_within (command_name p) w h = property_within p w
+
+  pub command_within : {x : Expr} {ts rest : List Token} → IsCommand all x ts rest → Within all (length ts) (unread_places x)
+  unfolding unread_places arg_places
+  command_within (with_args d e b c g) =
+      goes_command_within g (rw (← expr.rolls-Call, fold-roll-Expr) (both (path_within d) (after (of_path all d) (cargs_within c)))) (no_more (then (of_path all d) (of_cargs all c)))
+  command_within (with_link d e l g) = goes_command_within g (link_within l (path_within d) (no_more (of_path all d))) (no_more (then (of_path all d) (of_link all l)))
+  command_within (with_name d e p) = property_within p (path_within d)
+
+  pub full_within : {x : Expr} {ts rest : List Token} → IsFull all x ts rest → Within all (length ts) (unread_places x)
+  unfolding unread_places
+  full_within (full_cond d n) = cond_within d
+  full_within (full_assign {t = t} d p q e) = rw (← expr.rolls-Assign, fold-roll-Expr) (both (cond_within d) (after (then (of_cond all d) (takes_one {t = t})) (full_within e)))
+  full_within (full_command d) = command_within d

@@ -1,6 +1,6 @@
 //! Laws of the grammar: each is a function without a body, whose contract is the law.
 
-ghost use Rattle.std.specs.Prelude.{◌≡◌, ◌<◌, ℕ, Bool, true, List, ◌∷◌};
+ghost use Rattle.std.specs.Prelude.{◌≡◌, ◌<◌, ℕ, Bool, true, List, ◌∷◌, length};
 ghost use Rattle.gv_spelling.specs.declared.kinds.Symbol.TheVariants as symbol;
 ghost use Rattle.gv_lex.specs.declared.token.Token.{Token};
 ghost use Rattle.gv_tree.specs.declared.expr.Arg.{Arg};
@@ -15,6 +15,7 @@ ghost use Rattle.gv_tree.specs.declared.stmt.Stmt.{Stmt};
 ghost use Rattle.gv_grammar.specs.Tokens.{begins_expr, kind_of, reach};
 ghost use Rattle.gv_grammar.specs.Phrases.{Takes};
 ghost use Rattle.gv_grammar.specs.Meeting.{Meet, Level, CondGoes, Same};
+ghost use Rattle.gv_grammar.specs.Closures.{unread_places, Within};
 ghost use Rattle.gv_grammar.specs.Commands.{IsFull};
 ghost use Rattle.gv_grammar.specs.Stmts.{Reads, IsBodyOf, AreParams, IsValue, IsFullValue, IsDecl, IsStmt, IsBody, IsBlock, AreStmts};
 ghost use Rattle.gv_grammar.specs.Scripts.{IsScript, IsTop, IsClass, IsMethod, AreMembers};
@@ -73,6 +74,13 @@ pub fn takes_tokens()
     ensures units { (all : ℕ) (x : Expr) (ts rest : List Token) → IsUnary all x ts rest → Takes 1 ts rest }
     ensures paths { (all : ℕ) (x : Expr) (ts rest : List Token) → IsPath all x ts rest → Takes 1 ts rest }
     ensures primaries { (all : ℕ) (x : Expr) (ts rest : List Token) → IsPrimary all x ts rest → Takes 1 ts rest }
+{}
+
+/// An unread closure of an expression lies in the list of all tokens and ends no earlier than it begins,
+/// and there are fewer tokens from it on than from the expression on.
+pub fn closures_within()
+    ensures exprs { (all : ℕ) (x : Expr) (ts rest : List Token) → IsExpr all x ts rest → Within all (length ts) (unread_places x) }
+    ensures fulls { (all : ℕ) (x : Expr) (ts rest : List Token) → IsFull all x ts rest → Within all (length ts) (unread_places x) }
 {}
 
 /// An expression begins with one of the tokens of `begins_expr`, and each of these begins one.
