@@ -234,6 +234,7 @@ module _ (all : ℕ) where
           (subst (λ i. GoesBin all n (j || joins_once o) (expr.Binary (place_of ts) o x i) w vs after) (sym a) g)))
       same_op o h v vs w after d g (first_goes_on a b) = let c = bin_stops all g a in let i = ap length (c.0) in let f = no_more (of_goes_bin all (t.is)) in omega arith
       same_op o h v vs w after d g (second_goes_on a b) = let c = l.longest v vs d in absurd (omega arith)
+
       go : (w : Expr) (after : List Token) → Extended n j x ts w after → length rest ≤ length after
       go w after (inl s) = let h : op ≡ s.op = cc in same_op (s.op) h (s.right) (s.us) w after (s.operand) (s.more) (meet_bin all (l.is) (s.operand))
       go w after (inr s) = absurd (operator_or_typing _ p (s.meant))

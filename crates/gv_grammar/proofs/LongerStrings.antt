@@ -36,8 +36,13 @@ module _ (all : ℕ) where
 
   names_part : {x : Expr} {ts : List Token} (y : Expr) (rest : List Token) → GoesNames all x y ts rest → (length rest ≡ length ts) ⊎ OneName x ts y rest
   names_part y rest names_end = inl refl
-  names_part {x = x} {ts = ts} y rest (one_name {n = n} {us = us} d q g) = inr (record { us = us; name = n; dot = d; named = meant q;
-      more = along (λ zs. GoesNames all (expr.Member (place_of ts) member.Dot x (label.Name (ident (place_of us) n))) y zs rest) (sym (as_rest q)) g })
+  names_part {x = x} {ts = ts} y rest (one_name {n = n} {us = us} d q g) = inr (record {
+    us = us;
+    name = n;
+    dot = d;
+    named = meant q;
+    more = along (λ zs. GoesNames all (expr.Member (place_of ts) member.Dot x (label.Name (ident (place_of us) n))) y zs rest) (sym (as_rest q)) g;
+  })
 
   pub names_no_dot : {x : Expr} {ts : List Token} → ((us : List Token) → Eats symbol.Dot ts us → ⊥) → Longest (GoesNames all x) x ts ts
   names_no_dot {x = x} {ts = ts} f = stops_here (GoesNames all) (OneName x ts) names_end names_part (λ y after d. f d.us d.dot)

@@ -28,12 +28,11 @@ module _ {A B : Type 0} (P : A → List Token → Type 0) (H : Phrase A) (T : A 
     (meet : (x x' : A) (ts us us' : List Token) → H x ts us → H x' ts us' → Meet P x us x' us')
     (stops : (x : A) (y : B) (us rest : List Token) → T x y us rest → P x us → rest ≡ us)
     (shrinks : (x : A) (y : B) (us rest : List Token) → T x y us rest → length rest ≤ length us) where
-
   pub longest_of_two : {x : A} {y : B} {ts us rest : List Token} → Longest H x ts us → Longest (T x) y us rest → Longest S y ts rest
   longest_of_two {x = x} {y = y} {ts = ts} {us = us} {rest = rest} h t = record {
-      is = build x y ts us rest (h.is) (t.is);
-      longest = λ z after d. go z after (split z ts after d);
-    }
+    is = build x y ts us rest (h.is) (t.is);
+    longest = λ z after d. go z after (split z ts after d);
+  }
     where
       go2 : (z : B) (after : List Token) (x' : A) (us' : List Token) → H x' ts us' → T x' z us' after → Meet P x us x' us' → length rest ≤ length after
       go2 z after x' us' h' t' (one p q) = t.longest z after (subst (λ w. T w z us after) (sym p) (subst (λ zs. T x' z zs after) (sym q) t'))
@@ -41,6 +40,7 @@ module _ {A B : Type 0} (P : A → List Token → Type 0) (H : Phrase A) (T : A 
           let a = ap length (stops x' z us' after t' p) in
           let b = shrinks x y us rest (t.is) in omega arith
       go2 z after x' us' h' t' (second_goes_on p q) = let a = h.longest x' us' h' in absurd (omega arith)
+
       go : (z : B) (after : List Token) → Split H T z ts after → length rest ≤ length after
       go z after d = go2 z after (d.x) (d.us) (d.head) (d.tail) (meet x (d.x) ts us (d.us) (h.is) (d.head))
 
