@@ -25,7 +25,7 @@ use Rattle.gv_grammar.proofs.Meets.{under, joins, meet_cond, meet_path, meet_suf
 
 -- ---- tokens
 
-keyword_stops : (k : Keyword) (n : ℕ) → keyword_begins_arguments k ≡ true → reach (kind.Word (word.Keyword k) n) ≡ 13
+pub keyword_stops : (k : Keyword) (n : ℕ) → keyword_begins_arguments k ≡ true → reach (kind.Word (word.Keyword k) n) ≡ 13
 keyword_stops keyword.This n p = refl
 keyword_stops keyword.Super n p = refl
 keyword_stops keyword.Null n p = refl
@@ -50,22 +50,22 @@ name_stops (kind.Word word.Name n) p = refl
 name_stops (kind.Word word.TypeName n) p = refl
 name_stops other p = cc
 
-name_begins : (c : TokenKind) {n : ℕ} → name_of c ≡ Some n → begins_arguments c ≡ true
+pub name_begins : (c : TokenKind) {n : ℕ} → name_of c ≡ Some n → begins_arguments c ≡ true
 name_begins (kind.Word word.Name n) p = refl
 name_begins (kind.Word word.TypeName n) p = refl
 name_begins other p = cc
 
-arguments_or_call : (c : TokenKind) → begins_arguments c ≡ true → begins_call c ≡ true → ⊥
+pub arguments_or_call : (c : TokenKind) → begins_arguments c ≡ true → begins_call c ≡ true → ⊥
 arguments_or_call (kind.Symbol symbol.LeftParen) p q = cc
 arguments_or_call (kind.Symbol symbol.LeftBrace) p q = cc
 arguments_or_call other p q = cc
 
-name_or_call : (l : Layer) → name_layer l ≡ true → call_layer l ≡ true → ⊥
+pub name_or_call : (l : Layer) → name_layer l ≡ true → call_layer l ≡ true → ⊥
 name_or_call (Expr-F.Call p x args) h i = cc
 name_or_call other h i = cc
 
 -- no path ends in both
-path_end : (x : Expr) → ends_in_name x ≡ true → ends_in_call x ≡ true → ⊥
+pub path_end : (x : Expr) → ends_in_name x ≡ true → ends_in_call x ≡ true → ⊥
 unfolding ends_in_name ends_in_call
 path_end x p q = name_or_call (out-Expr x) p q
 
@@ -83,7 +83,7 @@ settled f g (second_goes_on p q) = absurd (f p)
 pub stays : {n : ℕ} {ts : List Token} → n ≤ 12 → Stops ts → Goes n ts → ⊥
 stays h p g = let a = g.by in omega arith
 
-stays_before : {n : ℕ} {ts : List Token} → n ≤ 12 → begins_arguments (kind_of ts) ≡ true → Goes n ts → ⊥
+pub stays_before : {n : ℕ} {ts : List Token} → n ≤ 12 → begins_arguments (kind_of ts) ≡ true → Goes n ts → ⊥
 stays_before {ts = ts} h p g = let a = g.by in let b = arguments_stop (kind_of ts) p in omega arith
 
 module _ (all : ℕ) where
@@ -101,15 +101,15 @@ module _ (all : ℕ) where
   of_link (link_args p b d) = then (of_as p) (of_cargs d)
   of_link (link_call p b s) = then (of_as p) (of_suffix all s)
 
-  of_property : {x y : Expr} {ts rest : List Token} → IsProperty all x y ts rest → Takes 1 ts rest
+  pub of_property : {x y : Expr} {ts rest : List Token} → IsProperty all x y ts rest → Takes 1 ts rest
   of_property (last_name p f g) = of_as p
 
-  of_goes_command : {x y : Expr} {ts rest : List Token} → GoesCommand all x y ts rest → Takes 0 ts rest
+  pub of_goes_command : {x y : Expr} {ts rest : List Token} → GoesCommand all x y ts rest → Takes 0 ts rest
   of_goes_command (command_ends f) = takes_none
   of_goes_command (command_link l g) = weaken (then (of_link l) (of_goes_command g))
   of_goes_command (command_name p) = weaken (of_property p)
 
-  of_command : {x : Expr} {ts rest : List Token} → IsCommand all x ts rest → Takes 1 ts rest
+  pub of_command : {x : Expr} {ts rest : List Token} → IsCommand all x ts rest → Takes 1 ts rest
   of_command (with_args d e b c g) = then (of_path all d) (then (of_cargs c) (of_goes_command g))
   of_command (with_link d e l g) = then (of_path all d) (then (of_link l) (of_goes_command g))
   of_command (with_name d e p) = then (of_path all d) (of_property p)
@@ -121,7 +121,7 @@ module _ (all : ℕ) where
 
   -- ---- arguments
 
-  meet_carg : {a b : Arg} {ts us vs : List Token} → IsCommandArg all a ts us → IsCommandArg all b ts vs → Meet Onward a us b vs
+  pub meet_carg : {a b : Arg} {ts us vs : List Token} → IsCommandArg all a ts us → IsCommandArg all b ts vs → Meet Onward a us b vs
   meet_carg (plain_carg d n) (plain_carg d2 n2) =
       under (λ i. record { by = i.within }) (λ i. record { by = i.within }) (λ r. ap arg.Plain r) (meet_cond all d d2)
   meet_carg (plain_carg d n) (keyed_carg k c d2) = absurd (key_or_expr all k c (an_expr d expr_ends) n)
@@ -132,19 +132,19 @@ module _ (all : ℕ) where
       (meet_cond all d (along (λ zs. IsCond all y zs r) (eaten_same (a.rest) c c2) d2))
 
   -- the first reading ends before no comma, and the second goes on behind one
-  last_or_more : {a b : Arg} {xs ys : List Arg} {us vs ws rest : List Token} → Meet Onward a us b vs → kind_of us ≢ kind.Symbol symbol.Comma → Eats symbol.Comma vs ws → length rest < length ws
+  pub last_or_more : {a b : Arg} {xs ys : List Arg} {us vs ws rest : List Token} → Meet Onward a us b vs → kind_of us ≢ kind.Symbol symbol.Comma → Eats symbol.Comma vs ws → length rest < length ws
       → Meet Onward xs us ys rest
   last_or_more (one p q) n c h = absurd (n (ap kind_of q ∙ kind_eaten c))
   last_or_more (first_goes_on p q) n c h = absurd (stays (omega arith) (at_comma c) p)
   last_or_more (second_goes_on p q) n c h = let a = less (of_eats c) in second_goes_on p (omega arith)
 
-  more_or_last : {a b : Arg} {xs ys : List Arg} {us vs ws rest : List Token} → Meet Onward b vs a us → kind_of us ≢ kind.Symbol symbol.Comma → Eats symbol.Comma vs ws → length rest < length ws
+  pub more_or_last : {a b : Arg} {xs ys : List Arg} {us vs ws rest : List Token} → Meet Onward b vs a us → kind_of us ≢ kind.Symbol symbol.Comma → Eats symbol.Comma vs ws → length rest < length ws
       → Meet Onward ys rest xs us
   more_or_last (one p q) n c h = absurd (n (ap kind_of (sym q) ∙ kind_eaten c))
   more_or_last (first_goes_on p q) n c h = let a = less (of_eats c) in first_goes_on p (omega arith)
   more_or_last (second_goes_on p q) n c h = absurd (stays (omega arith) (at_comma c) p)
 
-  meet_cargs : {xs ys : List Arg} {ts us vs : List Token} → AreCommandArgs all xs ts us → AreCommandArgs all ys ts vs → Meet Onward xs us ys vs
+  pub meet_cargs : {xs ys : List Arg} {ts us vs : List Token} → AreCommandArgs all xs ts us → AreCommandArgs all ys ts vs → Meet Onward xs us ys vs
   meet_cargs (last_carg d n) (last_carg d2 n2) = under (λ i. i) (λ i. i) (λ r. ap (λ w. w ∷ []) r) (meet_carg d d2)
   meet_cargs (last_carg d n) (more_cargs d2 c2 g2) = last_or_more (meet_carg d d2) n c2 (less (of_cargs g2))
   meet_cargs (more_cargs d c g) (last_carg d2 n2) = more_or_last (meet_carg d d2) n2 c (less (of_cargs g))
@@ -154,7 +154,7 @@ module _ (all : ℕ) where
 
   -- ---- links
 
-  meet_link : {x y z : Expr} {ts us vs : List Token} → IsLink all x y ts us → IsLink all x z ts vs → Meet (Level 12) y us z vs
+  pub meet_link : {x y z : Expr} {ts us vs : List Token} → IsLink all x y ts us → IsLink all x z ts vs → Meet (Level 12) y us z vs
   meet_link {x = x} {ts = ts} (link_args p b d) (link_args {args = bs} {rest = r} p2 b2 d2) =
       let a = as_same p p2 in
       under (λ i. i) (λ i. i) (λ r. ap3 (λ n zs w. expr.Call (place_of zs) (property x ts n) w) (a.tree) (a.rest) r) (meet_cargs d (along (λ zs. AreCommandArgs all bs zs r) (a.rest) d2))
@@ -167,35 +167,35 @@ module _ (all : ℕ) where
   meet_link (link_call p b s) (link_args p2 b2 d) =
       let a = as_same p p2 in absurd (arguments_or_call _ (along (λ zs. begins_arguments (kind_of zs) ≡ true) (a.rest) b2) b)
 
-  record Named (ts : List Token) : Type 0 where
-    name : ℕ
-    named : name_of (kind_of ts) ≡ Some name
+  pub record Named (ts : List Token) : Type 0 where
+    pub name : ℕ
+    pub named : name_of (kind_of ts) ≡ Some name
 
-  link_named : {x y : Expr} {ts rest : List Token} → IsLink all x y ts rest → Named ts
+  pub link_named : {x y : Expr} {ts rest : List Token} → IsLink all x y ts rest → Named ts
   link_named (link_args p b d) = record { name = _; named = meant p }
   link_named (link_call p b s) = record { name = _; named = meant p }
 
-  property_named : {x y : Expr} {ts rest : List Token} → IsProperty all x y ts rest → Named ts
+  pub property_named : {x y : Expr} {ts rest : List Token} → IsProperty all x y ts rest → Named ts
   property_named (last_name p f g) = record { name = _; named = meant p }
 
-  unnamed : {ts : List Token} → name_of (kind_of ts) ≡ None → Named ts → ⊥
+  pub unnamed : {ts : List Token} → name_of (kind_of ts) ≡ None → Named ts → ⊥
   unnamed p n = let a = n.named in cc
 
-  link_or_property : {x y z : Expr} {ts us vs : List Token} → IsLink all x y ts us → IsProperty all x z ts vs → ⊥
+  pub link_or_property : {x y z : Expr} {ts us vs : List Token} → IsLink all x y ts us → IsProperty all x z ts vs → ⊥
   link_or_property (link_args p b d) (last_name p2 f g) =
       let a = as_same p p2 in let h = ap (λ zs. begins_arguments (kind_of zs)) (a.rest) in cc
   link_or_property (link_call p b s) (last_name p2 f g) =
       let a = as_same p p2 in let h = ap (λ zs. begins_call (kind_of zs)) (a.rest) in cc
 
-  meet_property : {x y z : Expr} {ts us vs : List Token} → IsProperty all x y ts us → IsProperty all x z ts vs → Same y us z vs
+  pub meet_property : {x y z : Expr} {ts us vs : List Token} → IsProperty all x y ts us → IsProperty all x z ts vs → Same y us z vs
   meet_property {x = x} {ts = ts} (last_name p f g) (last_name p2 f2 g2) = let a = as_same p p2 in record { tree = ap (property x ts) (a.tree); rest = a.rest }
 
-  command_stops : {x y : Expr} {us rest : List Token} → GoesCommand all x y us rest → Goes 12 us → (rest ≡ us) × Goes 12 us
+  pub command_stops : {x y : Expr} {us rest : List Token} → GoesCommand all x y us rest → Goes 12 us → (rest ≡ us) × Goes 12 us
   command_stops (command_ends f) g = (refl, g)
   command_stops {us = us} (command_link l h) g = let n = link_named l in let a = name_stops (kind_of us) n.named in let b = g.by in absurd (omega arith)
   command_stops {us = us} (command_name p) g = let n = property_named p in let a = name_stops (kind_of us) n.named in let b = g.by in absurd (omega arith)
 
-  meet_goes_command : {x y z : Expr} {ts us vs : List Token} → GoesCommand all x y ts us → GoesCommand all x z ts vs → Meet (Level 12) y us z vs
+  pub meet_goes_command : {x y z : Expr} {ts us vs : List Token} → GoesCommand all x y ts us → GoesCommand all x z ts vs → Meet (Level 12) y us z vs
   meet_goes_command (command_ends f) (command_ends f2) = one refl refl
   meet_goes_command (command_ends f) (command_link l g) = absurd (unnamed f (link_named l))
   meet_goes_command (command_ends f) (command_name p) = absurd (unnamed f (property_named p))
@@ -227,10 +227,10 @@ module _ (all : ℕ) where
   called (with_name d e p) =
       let n = property_named p in let q = no_more (of_property p) in record { path = _; behind = _; is_path = d; follows = name_begins _ n.named; within = q }
 
-  path_once : {x y : Expr} {ts us vs : List Token} → IsPath all x ts us → IsPath all y ts vs → begins_arguments (kind_of us) ≡ true → begins_arguments (kind_of vs) ≡ true → Same x us y vs
+  pub path_once : {x y : Expr} {ts us vs : List Token} → IsPath all x ts us → IsPath all y ts vs → begins_arguments (kind_of us) ≡ true → begins_arguments (kind_of vs) ≡ true → Same x us y vs
   path_once d d2 p q = settled (stays_before (omega arith) p) (stays_before (omega arith) q) (meet_path all d d2)
 
-  meet_command : {x y : Expr} {ts us vs : List Token} → IsCommand all x ts us → IsCommand all y ts vs → Meet (Level 12) x us y vs
+  pub meet_command : {x y : Expr} {ts us vs : List Token} → IsCommand all x ts us → IsCommand all y ts vs → Meet (Level 12) x us y vs
   meet_command (with_args d e b c g) (with_args {y = y} {args = bs} {vs = vs} {rest = r} d2 e2 b2 c2 g2) =
       let a = path_once d d2 b b2 in
       joins (meet_cargs c (along (λ zs. AreCommandArgs all bs zs vs) (a.rest) c2))
@@ -272,40 +272,40 @@ module _ (all : ℕ) where
   pub path_cond : {x : Expr} {ts rest : List Token} → IsPath all x ts rest → IsCond all x ts rest
   path_cond d = a_cond (raised all 10 (no_prefix d)) cond_ends
 
-  ends_called : {x : Expr} {ts : List Token} → begins_arguments (kind_of ts) ≡ true → CondGoes x ts → ⊥
+  pub ends_called : {x : Expr} {ts : List Token} → begins_arguments (kind_of ts) ≡ true → CondGoes x ts → ⊥
   ends_called {ts = ts} p g = let a = g.within in let b = arguments_stop (kind_of ts) p in omega arith
 
   -- a target before an assignment doesn't go on otherwise
-  ends_assigned : {x : Expr} {t : Token} {ts : List Token} {op : AssignOp} → assign_of t.kind ≡ Some op → is_target x ≡ true → CondGoes x (t ∷ ts) → ⊥
+  pub ends_assigned : {x : Expr} {t : Token} {ts : List Token} {op : AssignOp} → assign_of t.kind ≡ Some op → is_target x ≡ true → CondGoes x (t ∷ ts) → ⊥
   ends_assigned {t = t} p q g = let a = g.target q in let b = reach_assign t.kind p in omega arith
 
-  cond_or_assign : {x y v w : Expr} {t : Token} {op : AssignOp} {us vs rest : List Token} → Meet CondGoes x us y (t ∷ vs) → assign_of t.kind ≡ Some op → is_target y ≡ true → length rest ≤ length vs
+  pub cond_or_assign : {x y v w : Expr} {t : Token} {op : AssignOp} {us vs rest : List Token} → Meet CondGoes x us y (t ∷ vs) → assign_of t.kind ≡ Some op → is_target y ≡ true → length rest ≤ length vs
       → Meet (Level 12) v us w rest
   cond_or_assign {t = t} (one p q) a b h =
       let e = reach_assign t.kind a in let f = ap (λ zs. reach (kind_of zs)) q in let g = ap length q in second_goes_on (record { by = omega arith }) (omega arith)
   cond_or_assign (first_goes_on p q) a b h = absurd (ends_assigned a b p)
   cond_or_assign (second_goes_on p q) a b h = second_goes_on (record { by = p.within }) (omega arith)
 
-  assign_or_cond : {x y v w : Expr} {t : Token} {op : AssignOp} {us vs rest : List Token} → Meet CondGoes y (t ∷ vs) x us → assign_of t.kind ≡ Some op → is_target y ≡ true → length rest ≤ length vs
+  pub assign_or_cond : {x y v w : Expr} {t : Token} {op : AssignOp} {us vs rest : List Token} → Meet CondGoes y (t ∷ vs) x us → assign_of t.kind ≡ Some op → is_target y ≡ true → length rest ≤ length vs
       → Meet (Level 12) w rest v us
   assign_or_cond {t = t} (one p q) a b h =
       let e = reach_assign t.kind a in let f = ap (λ zs. reach (kind_of zs)) q in let g = ap length q in first_goes_on (record { by = omega arith }) (omega arith)
   assign_or_cond (second_goes_on p q) a b h = absurd (ends_assigned a b p)
   assign_or_cond (first_goes_on p q) a b h = first_goes_on (record { by = p.within }) (omega arith)
 
-  cond_or_command : {x y v w : Expr} {us vs rest : List Token} → Meet CondGoes x us y vs → begins_arguments (kind_of us) ≡ false → begins_arguments (kind_of vs) ≡ true → length rest ≤ length vs
+  pub cond_or_command : {x y v w : Expr} {us vs rest : List Token} → Meet CondGoes x us y vs → begins_arguments (kind_of us) ≡ false → begins_arguments (kind_of vs) ≡ true → length rest ≤ length vs
       → Meet (Level 12) v us w rest
   cond_or_command (one p q) a b h = let e = ap (λ zs. begins_arguments (kind_of zs)) q in cc
   cond_or_command (first_goes_on p q) a b h = absurd (ends_called b p)
   cond_or_command (second_goes_on p q) a b h = second_goes_on (record { by = p.within }) (omega arith)
 
-  command_or_cond : {x y v w : Expr} {us vs rest : List Token} → Meet CondGoes y vs x us → begins_arguments (kind_of us) ≡ false → begins_arguments (kind_of vs) ≡ true → length rest ≤ length vs
+  pub command_or_cond : {x y v w : Expr} {us vs rest : List Token} → Meet CondGoes y vs x us → begins_arguments (kind_of us) ≡ false → begins_arguments (kind_of vs) ≡ true → length rest ≤ length vs
       → Meet (Level 12) w rest v us
   command_or_cond (one p q) a b h = let e = ap (λ zs. begins_arguments (kind_of zs)) q in cc
   command_or_cond (second_goes_on p q) a b h = absurd (ends_called b p)
   command_or_cond (first_goes_on p q) a b h = first_goes_on (record { by = p.within }) (omega arith)
 
-  assign_or_command : {x y : Expr} {t : Token} {op : AssignOp} {us vs : List Token} → Meet CondGoes x (t ∷ us) y vs → assign_of t.kind ≡ Some op → is_target x ≡ true → begins_arguments (kind_of vs) ≡ true → ⊥
+  pub assign_or_command : {x y : Expr} {t : Token} {op : AssignOp} {us vs : List Token} → Meet CondGoes x (t ∷ us) y vs → assign_of t.kind ≡ Some op → is_target x ≡ true → begins_arguments (kind_of vs) ≡ true → ⊥
   assign_or_command {t = t} {vs = vs} (one p q) a b c =
       let e = reach_assign t.kind a in let f = ap (λ zs. reach (kind_of zs)) q in let g = arguments_stop (kind_of vs) c in omega arith
   assign_or_command (first_goes_on p q) a b c = ends_called c p

@@ -38,12 +38,12 @@ use Rattle.gv_grammar.proofs.Tails.{Stops, at_comma, at_paren, at_end}
 use Rattle.gv_grammar.proofs.StmtFirsts.{line_eaten, keyword_eaten, stmt_class, keyword_at, symbol_at, typed_at, named_token, ended_at, separated_at, stmt_first, no_stmt}
 use Rattle.gv_grammar.proofs.Stmts.{symbol_missing, keyword_or_symbol, keywords_agree, separates_once, separates_stops, may_line_once, var_type_once, by_paren, params_once, value_once, decl_once, vars_once, stmt_once, block_once}
 
-end_once : {ts us vs : List Token} → EatsEnd ts us → EatsEnd ts vs → us ≡ vs
+pub end_once : {ts us vs : List Token} → EatsEnd ts us → EatsEnd ts vs → us ≡ vs
 end_once (eats_end p) (eats_end q) = refl
 
 -- ---- words before a declaration
 
-keyword_modifies : (k : Keyword) (m : Modifiers) {n : Modifiers} → with_modifier k m ≡ Some n → with_modifier k no_modifiers ≡ None → ⊥
+pub keyword_modifies : (k : Keyword) (m : Modifiers) {n : Modifiers} → with_modifier k m ≡ Some n → with_modifier k no_modifiers ≡ None → ⊥
 keyword_modifies keyword.Public m p q = cc
 keyword_modifies keyword.Private m p q = cc
 keyword_modifies keyword.Protected m p q = cc
@@ -52,11 +52,11 @@ keyword_modifies keyword.Final m p q = cc
 keyword_modifies k m p q = cc
 
 -- a word that modifies anything modifies everything
-modifies : (c : TokenKind) (m : Modifiers) {n : Modifiers} → modified c m ≡ Some n → modified c no_modifiers ≡ None → ⊥
+pub modifies : (c : TokenKind) (m : Modifiers) {n : Modifiers} → modified c m ≡ Some n → modified c no_modifiers ≡ None → ⊥
 modifies (kind.Word (word.Keyword k) n) m p q = keyword_modifies k m p q
 modifies other m p q = cc
 
-modifiers_once : {a b : Modifiers} {ts us vs : List Token} → AreModifiers a ts us → AreModifiers b ts vs → Same a us b vs
+pub modifiers_once : {a b : Modifiers} {ts us vs : List Token} → AreModifiers a ts us → AreModifiers b ts vs → Same a us b vs
 modifiers_once (no_modifier p) (no_modifier q) = record { tree = refl; rest = refl }
 modifiers_once (no_modifier p) (a_modifier {m = m} {t = t} d q) = absurd (modifies t.kind m q p)
 modifiers_once (a_modifier {m = m} {t = t} d q) (no_modifier p) = absurd (modifies t.kind m q p)
@@ -67,16 +67,16 @@ modifiers_once (a_modifier {n = n} {t = t} d p) (a_modifier {n = n2} e q) =
     record { tree = c; rest = a.rest }
 
 -- the first word doesn't modify
-unmodified : {m : Modifiers} {ts us : List Token} → AreModifiers m ts us → modified (kind_of ts) no_modifiers ≡ None → us ≡ ts
+pub unmodified : {m : Modifiers} {ts us : List Token} → AreModifiers m ts us → modified (kind_of ts) no_modifiers ≡ None → us ≡ ts
 unmodified (no_modifier p) h = refl
 unmodified (a_modifier {m = m} {t = t} d q) h = absurd (modifies t.kind m q h)
 
-keyword_unmodified : {k : Keyword} {ts us : List Token} → EatsKeyword k ts us → with_modifier k no_modifiers ≡ None → modified (kind_of ts) no_modifiers ≡ None
+pub keyword_unmodified : {k : Keyword} {ts us : List Token} → EatsKeyword k ts us → with_modifier k no_modifiers ≡ None → modified (kind_of ts) no_modifiers ≡ None
 keyword_unmodified (eats_keyword p) h = ap (λ c. modified c no_modifiers) p ∙ h
 
 -- ---- imports
 
-dotted_once : {xs ys : List Ident} {ts us vs : List Token} → IsDotted xs ts us → IsDotted ys ts vs → Same xs us ys vs
+pub dotted_once : {xs ys : List Ident} {ts us vs : List Token} → IsDotted xs ts us → IsDotted ys ts vs → Same xs us ys vs
 dotted_once {ts = ts} (last_dotted p f) (last_dotted q g) = let a = as_same p q in record { tree = ap (λ n. ident (place_of ts) n ∷ []) (a.tree); rest = a.rest }
 dotted_once (last_dotted p f) (more_dotted q c d) = let a = as_same p q in absurd (symbol_missing (a.rest) f c)
 dotted_once (more_dotted p c d) (last_dotted q f) = let a = as_same p q in absurd (symbol_missing (sym (a.rest)) f c)
@@ -85,19 +85,19 @@ dotted_once {ts = ts} (more_dotted p c d) (more_dotted {ns = ns} {rest = r} q c2
     let b = dotted_once d (along (λ zs. IsDotted ns zs r) (eaten_same (a.rest) c c2) e) in
     record { tree = ap2 (λ n is. ident (place_of ts) n ∷ is) (a.tree) (b.tree); rest = b.rest }
 
-all_once : {a b : Bool} {ts us vs : List Token} → MayAll a ts us → MayAll b ts vs → Same a us b vs
+pub all_once : {a b : Bool} {ts us vs : List Token} → MayAll a ts us → MayAll b ts vs → Same a us b vs
 all_once (is_all p) (is_all q) = record { tree = refl; rest = same_rest p q }
 all_once (not_all f) (not_all g) = record { tree = refl; rest = refl }
 all_once (is_all p) (not_all g) = absurd (symbol_missing refl g p)
 all_once (not_all f) (is_all q) = absurd (symbol_missing refl f q)
 
-import_once : {x y : Import} {ts us vs : List Token} → IsImport x ts us → IsImport y ts vs → Same x us y vs
+pub import_once : {x y : Import} {ts us vs : List Token} → IsImport x ts us → IsImport y ts vs → Same x us y vs
 import_once {ts = ts} (an_import p d m) (an_import {path = path} {all = b} {vs = vs2} {rest = r} q e n) =
     let a = dotted_once d (along (λ zs. IsDotted path zs vs2) (keyword_same p q) e) in
     let c = all_once m (along (λ zs. MayAll b zs r) (a.rest) n) in
     record { tree = ap2 (λ is w. record { place = place_of ts; path = is; is_all = w }) (a.tree) (c.tree); rest = c.rest }
 
-name_once : {k : Keyword} {x y : Option Ident} {ts us vs : List Token} → MayName k x ts us → MayName k y ts vs → Same x us y vs
+pub name_once : {k : Keyword} {x y : Option Ident} {ts us vs : List Token} → MayName k x ts us → MayName k y ts vs → Same x us y vs
 name_once (a_name p n) (a_name {n = m} {us = us} {rest = r} q n2) =
     let h = keyword_same p q in
     let a = as_same n (along (λ zs. EatsAs type_name_of m zs r) h n2) in
@@ -109,11 +109,11 @@ name_once (no_name f) (a_name q n) = let a = keyword_eaten q in absurd (f a.0 (a
 -- ---- the first token of a declaration with modifiers
 
 -- no statement begins here, or a declaration
-data Begun (ts : List Token) : Type 0 where
+pub data Begun (ts : List Token) : Type 0 where
   none_begun : stmt_class ts ≡ 0 → Begun ts
   decl_begun : stmt_class ts ≡ 2 → Begun ts
 
-modifier_begun : (t : Token) (ts : List Token) (c : TokenKind) (m : Modifiers) {n : Modifiers} → t.kind ≡ c → modified c m ≡ Some n → Begun (t ∷ ts)
+pub modifier_begun : (t : Token) (ts : List Token) (c : TokenKind) (m : Modifiers) {n : Modifiers} → t.kind ≡ c → modified c m ≡ Some n → Begun (t ∷ ts)
 modifier_begun t ts (kind.Word (word.Keyword keyword.Public) n) m e p = none_begun (keyword_at (eats_keyword {t = t} {rest = ts} e))
 modifier_begun t ts (kind.Word (word.Keyword keyword.Private) n) m e p = none_begun (keyword_at (eats_keyword {t = t} {rest = ts} e))
 modifier_begun t ts (kind.Word (word.Keyword keyword.Protected) n) m e p = none_begun (keyword_at (eats_keyword {t = t} {rest = ts} e))
@@ -127,37 +127,37 @@ opens (kind.Word w n) = true
 opens (kind.Symbol symbol.At) = true
 opens other = false
 
-keyword_opens : {k : Keyword} {ts rest : List Token} → EatsKeyword k ts rest → opens (kind_of ts) ≡ true
+pub keyword_opens : {k : Keyword} {ts rest : List Token} → EatsKeyword k ts rest → opens (kind_of ts) ≡ true
 keyword_opens (eats_keyword p) = ap opens p
 
-modifier_opens : (c : TokenKind) (m : Modifiers) {n : Modifiers} → modified c m ≡ Some n → opens c ≡ true
+pub modifier_opens : (c : TokenKind) (m : Modifiers) {n : Modifiers} → modified c m ≡ Some n → opens c ≡ true
 modifier_opens (kind.Word w n) m p = refl
 modifier_opens other m p = cc
 
-name_opens : (c : TokenKind) {n : ℕ} → type_name_of c ≡ Some n → opens c ≡ true
+pub name_opens : (c : TokenKind) {n : ℕ} → type_name_of c ≡ Some n → opens c ≡ true
 name_opens (kind.Word w n) p = refl
 name_opens other p = cc
 
-type_kind_opens : (place : Place) (c : TokenKind) {type : TypeTree} → type_of place c ≡ Some type → opens c ≡ true
+pub type_kind_opens : (place : Place) (c : TokenKind) {type : TypeTree} → type_of place c ≡ Some type → opens c ≡ true
 type_kind_opens place (kind.Word w n) p = refl
 type_kind_opens place other p = cc
 
-type_kind_unmodified : (place : Place) (c : TokenKind) {type : TypeTree} → type_of place c ≡ Some type → modified c no_modifiers ≡ None
+pub type_kind_unmodified : (place : Place) (c : TokenKind) {type : TypeTree} → type_of place c ≡ Some type → modified c no_modifiers ≡ None
 type_kind_unmodified place (kind.Word (word.Keyword keyword.Int) n) p = refl
 type_kind_unmodified place (kind.Word (word.Keyword keyword.Long) n) p = refl
 type_kind_unmodified place (kind.Word (word.Keyword keyword.Boolean) n) p = refl
 type_kind_unmodified place (kind.Word word.TypeName n) p = refl
 type_kind_unmodified place other p = cc
 
-separator_opens : {ts us : List Token} → Separates ts us → opens (kind_of ts) ≡ false
+pub separator_opens : {ts us : List Token} → Separates ts us → opens (kind_of ts) ≡ false
 separator_opens (by_line p) = ap opens (line_eaten p)
 separator_opens (by_semicolon p) = ap opens (kind_eaten p)
 
-separator_or_brace : {ts us vs : List Token} → Separates ts us → Eats symbol.RightBrace ts vs → ⊥
+pub separator_or_brace : {ts us vs : List Token} → Separates ts us → Eats symbol.RightBrace ts vs → ⊥
 separator_or_brace (by_line p) q = let a = line_eaten p in let b = kind_eaten q in cc
 separator_or_brace (by_semicolon p) q = let a = apart refl p q in cc
 
-separator_or_end : {ts us vs : List Token} → Separates ts us → EatsEnd ts vs → ⊥
+pub separator_or_end : {ts us vs : List Token} → Separates ts us → EatsEnd ts vs → ⊥
 separator_or_end (by_line p) q = let a = line_eaten p in let b = end_eaten q in cc
 separator_or_end (by_semicolon p) q = let a = kind_eaten p in let b = end_eaten q in cc
 
@@ -167,7 +167,7 @@ module _ (tokens : List Token) where
   abbrev setting_of : List Token → ℕ → Expr → Setting
   setting_of ts n x = record { ident = ident (place_of ts) n; value = x }
 
-  settings_once : {xs ys : List Setting} {ts us vs : List Token} → AreSettings tokens xs ts us → AreSettings tokens ys ts vs → Same xs us ys vs
+  pub settings_once : {xs ys : List Setting} {ts us vs : List Token} → AreSettings tokens xs ts us → AreSettings tokens ys ts vs → Same xs us ys vs
   settings_once {ts = ts} (last_setting p e d c) (last_setting {x = y} {ws = ws} q e2 d2 c2) =
       let a = as_same p q in
       let b = value_once tokens d (along (λ zs. IsValue tokens y zs ws) (eaten_same (a.rest) e e2) d2) (at_paren c) (at_paren c2) in
@@ -186,11 +186,11 @@ module _ (tokens : List Token) where
       let h = settings_once g (along (λ zs. AreSettings tokens ss zs r) (eaten_same (b.rest) c c2) g2) in
       record { tree = ap3 (λ n x w. setting_of ts n x ∷ w) (a.tree) (b.tree) (h.tree); rest = h.rest }
 
-  settings_or_close : {xs : List Setting} {ts us vs ws : List Token} → ts ≡ us → AreSettings tokens xs ts vs → Eats symbol.RightParen us ws → ⊥
+  pub settings_or_close : {xs : List Setting} {ts us vs ws : List Token} → ts ≡ us → AreSettings tokens xs ts vs → Eats symbol.RightParen us ws → ⊥
   settings_or_close e (last_setting p q d c) r = let a = meant p in let b = ap name_of (ap kind_of e ∙ kind_eaten r) in cc
   settings_or_close e (more_settings p q d c g) r = let a = meant p in let b = ap name_of (ap kind_of e ∙ kind_eaten r) in cc
 
-  may_settings_once : {xs ys : List Setting} {ts us vs : List Token} → MaySettings tokens xs ts us → MaySettings tokens ys ts vs → Same xs us ys vs
+  pub may_settings_once : {xs ys : List Setting} {ts us vs : List Token} → MaySettings tokens xs ts us → MaySettings tokens ys ts vs → Same xs us ys vs
   may_settings_once (no_parens f) (no_parens g) = record { tree = refl; rest = refl }
   may_settings_once (no_parens f) (empty_parens p q) = absurd (symbol_missing refl f p)
   may_settings_once (no_parens f) (settings p d) = absurd (symbol_missing refl f p)
@@ -201,7 +201,7 @@ module _ (tokens : List Token) where
   may_settings_once (settings p d) (empty_parens p2 q) = absurd (settings_or_close (same_rest p p2) d q)
   may_settings_once (settings p d) (settings {ss = ss} {rest = r} p2 e) = settings_once d (along (λ zs. AreSettings tokens ss zs r) (same_rest p p2) e)
 
-  notes_once : {xs ys : List Annotation} {ts us vs : List Token} → AreAnnotations tokens xs ts us → AreAnnotations tokens ys ts vs → Same xs us ys vs
+  pub notes_once : {xs ys : List Annotation} {ts us vs : List Token} → AreAnnotations tokens xs ts us → AreAnnotations tokens ys ts vs → Same xs us ys vs
   notes_once (no_annotation f) (no_annotation g) = record { tree = refl; rest = refl }
   notes_once (no_annotation f) (an_annotation p d s l g) = absurd (symbol_missing refl f p)
   notes_once (an_annotation p d s l g) (no_annotation f) = absurd (symbol_missing refl f p)
@@ -213,22 +213,22 @@ module _ (tokens : List Token) where
 
   -- ---- methods
 
-  void_or_type : {w : VarType} {ts us vs : List Token} → EatsKeyword keyword.Void ts us → IsVarType tokens w ts vs → ⊥
+  pub void_or_type : {w : VarType} {ts us vs : List Token} → EatsKeyword keyword.Void ts us → IsVarType tokens w ts vs → ⊥
   void_or_type p (var_def q) = let a = keywords_agree p q in cc
   void_or_type p (var_typed {t = t} q) = let a = keyword_eaten p in let b = ap (type_of t.place) (a.1) in cc
 
-  answer_once : {x y : Answer} {ts us vs : List Token} → IsAnswer tokens x ts us → IsAnswer tokens y ts vs → Same x us y vs
+  pub answer_once : {x y : Answer} {ts us vs : List Token} → IsAnswer tokens x ts us → IsAnswer tokens y ts vs → Same x us y vs
   answer_once (a_void p) (a_void q) = record { tree = refl; rest = keyword_same p q }
   answer_once (an_answer d) (an_answer e) = let a = var_type_once tokens d e in record { tree = ap answer.Value (a.tree); rest = a.rest }
   answer_once (a_void p) (an_answer e) = absurd (void_or_type p e)
   answer_once (an_answer d) (a_void q) = absurd (void_or_type q d)
 
-  record SameRoutine (p : List Param) (b : List Stmt) (ts : List Token) (q : List Param) (c : List Stmt) (us : List Token) : Type 0 where
-    params : p ≡ q
-    body : b ≡ c
-    rest : ts ≡ us
+  pub record SameRoutine (p : List Param) (b : List Stmt) (ts : List Token) (q : List Param) (c : List Stmt) (us : List Token) : Type 0 where
+    pub params : p ≡ q
+    pub body : b ≡ c
+    pub rest : ts ≡ us
 
-  routine_once : {p q : List Param} {b c : List Stmt} {ts us vs : List Token} → IsRoutine tokens p b ts us → IsRoutine tokens q c ts vs → SameRoutine p b us q c vs
+  pub routine_once : {p q : List Param} {b c : List Stmt} {ts us vs : List Token} → IsRoutine tokens p b ts us → IsRoutine tokens q c ts vs → SameRoutine p b us q c vs
   routine_once (routine o d l b) (routine {ps = ps} {b = b2} {vs = vs} {ws = ws} {rest = r} o2 d2 l2 c) =
       let a = params_once tokens by_paren d (along (λ zs. AreParams tokens symbol.RightParen ps zs vs) (same_rest o o2) d2) in
       let e = block_once tokens b (along (λ zs. IsBlock tokens b2 zs r) (may_line_once l (along (λ zs. MayLine zs ws) (a.rest) l2)) c) in
@@ -248,38 +248,38 @@ module _ (tokens : List Token) where
 
   -- ---- members
 
-  routine_or_stop : {ps : List Param} {b : List Stmt} {ts us : List Token} → IsRoutine tokens ps b ts us → Stops ts → ⊥
+  pub routine_or_stop : {ps : List Param} {b : List Stmt} {ts us : List Token} → IsRoutine tokens ps b ts us → Stops ts → ⊥
   routine_or_stop (routine o d l b) h = let a = ap reach (kind_eaten o) in omega arith
 
   -- the name of a routine isn't that of a variable
-  vars_or_routine : {vs : List Var} {ps : List Param} {b : List Stmt} {n : ℕ} {ts us xs ys : List Token} → AreVars tokens vs ts us → Stops us → EatsAs name_of n ts xs → IsRoutine tokens ps b xs ys → ⊥
+  pub vars_or_routine : {vs : List Var} {ps : List Param} {b : List Stmt} {n : ℕ} {ts us xs ys : List Token} → AreVars tokens vs ts us → Stops us → EatsAs name_of n ts xs → IsRoutine tokens ps b xs ys → ⊥
   vars_or_routine (last_var (var_alone p f) g) h n r = let a = as_same n p in routine_or_stop r (along Stops (a.rest) h)
   vars_or_routine (last_var (var_initial p c d) g) h n (routine o e l b) = let a = as_same n p in let k = apart (a.rest) o c in cc
   vars_or_routine (more_vars (var_alone p f) c d) h n (routine o e l b) = let a = as_same n p in let k = apart (a.rest) o c in cc
   vars_or_routine (more_vars (var_initial p c g) c2 d) h n (routine o e l b) = let a = as_same n p in let k = apart (a.rest) o c in cc
 
-  vars_or_parens : {vs : List Var} {ps : List Param} {b : List Stmt} {ts us xs : List Token} → AreVars tokens vs ts us → IsRoutine tokens ps b ts xs → ⊥
+  pub vars_or_parens : {vs : List Var} {ps : List Param} {b : List Stmt} {ts us xs : List Token} → AreVars tokens vs ts us → IsRoutine tokens ps b ts xs → ⊥
   vars_or_parens (last_var (var_alone p f) g) (routine o e l b) = let a = meant p in let k = ap name_of (kind_eaten o) in cc
   vars_or_parens (last_var (var_initial p c d) g) (routine o e l b) = let a = meant p in let k = ap name_of (kind_eaten o) in cc
   vars_or_parens (more_vars (var_alone p f) c d) (routine o e l b) = let a = meant p in let k = ap name_of (kind_eaten o) in cc
   vars_or_parens (more_vars (var_initial p c g) c2 d) (routine o e l b) = let a = meant p in let k = ap name_of (kind_eaten o) in cc
 
   -- a class's name, as a type, ends where it ends as the name of a constructor
-  type_behind : {w : VarType} {n : ℕ} {ts us vs : List Token} → IsVarType tokens w ts us → EatsAs type_name_of n ts vs → us ≡ vs
+  pub type_behind : {w : VarType} {n : ℕ} {ts us vs : List Token} → IsVarType tokens w ts us → EatsAs type_name_of n ts vs → us ≡ vs
   type_behind (var_typed q) (eats_as p) = refl
   type_behind (var_def q) p = let a = keyword_eaten q in let b = ap type_name_of (a.1) in let c = meant p in cc
 
-  answer_behind : {x : Answer} {n : ℕ} {ts us vs : List Token} → IsAnswer tokens x ts us → EatsAs type_name_of n ts vs → us ≡ vs
+  pub answer_behind : {x : Answer} {n : ℕ} {ts us vs : List Token} → IsAnswer tokens x ts us → EatsAs type_name_of n ts vs → us ≡ vs
   answer_behind (an_answer d) p = type_behind d p
   answer_behind (a_void q) p = let a = keyword_eaten q in let b = ap type_name_of (a.1) in let c = meant p in cc
 
-  answer_type : {x : Answer} {w : VarType} {ts us vs : List Token} → IsAnswer tokens x ts us → IsVarType tokens w ts vs → us ≡ vs
+  pub answer_type : {x : Answer} {w : VarType} {ts us vs : List Token} → IsAnswer tokens x ts us → IsVarType tokens w ts vs → us ≡ vs
   answer_type d e = let a = answer_once d (an_answer e) in a.rest
 
-  method_or_constructor : {x : Answer} {ps : List Param} {b : List Stmt} {n m : ℕ} {ts us vs ws xs : List Token} → IsAnswer tokens x ts us → EatsAs name_of n us vs → EatsAs type_name_of m ts ws → IsRoutine tokens ps b ws xs → ⊥
+  pub method_or_constructor : {x : Answer} {ps : List Param} {b : List Stmt} {n m : ℕ} {ts us vs ws xs : List Token} → IsAnswer tokens x ts us → EatsAs name_of n us vs → EatsAs type_name_of m ts ws → IsRoutine tokens ps b ws xs → ⊥
   method_or_constructor d i c (routine o e l b) = let a = answer_behind d c in let f = meant i in let g = ap name_of (ap kind_of a ∙ kind_eaten o) in cc
 
-  member_once : {class : ℕ} {x y : Member} {ts us vs : List Token} → IsMember tokens class x ts us → IsMember tokens class y ts vs → Stops us → Stops vs → Same x us y vs
+  pub member_once : {class : ℕ} {x y : Member} {ts us vs : List Token} → IsMember tokens class x ts us → IsMember tokens class y ts vs → Stops us → Stops vs → Same x us y vs
   member_once (a_method d) (a_method e) h k = let a = method_once d e in record { tree = ap member.Method (a.tree); rest = a.rest }
   member_once {class = class} (a_constructor {ps = ps} {b = b} {vs = vs} p m n d) (a_constructor {notes = ns} {m = m2} {ps = ps2} {b = b2} {us = us2} {vs = vs2} {ws = ws2} {rest = r2} p2 k n2 e) h j =
       let a = notes_once p p2 in
@@ -332,31 +332,31 @@ module _ (tokens : List Token) where
 
   -- ---- with what a class, a member and a top begin
 
-  type_opens : {w : VarType} {ts us : List Token} → IsVarType tokens w ts us → opens (kind_of ts) ≡ true
+  pub type_opens : {w : VarType} {ts us : List Token} → IsVarType tokens w ts us → opens (kind_of ts) ≡ true
   type_opens (var_def p) = keyword_opens p
   type_opens (var_typed {t = t} p) = type_kind_opens t.place t.kind p
 
-  answer_opens : {x : Answer} {ts us : List Token} → IsAnswer tokens x ts us → opens (kind_of ts) ≡ true
+  pub answer_opens : {x : Answer} {ts us : List Token} → IsAnswer tokens x ts us → opens (kind_of ts) ≡ true
   answer_opens (a_void p) = keyword_opens p
   answer_opens (an_answer d) = type_opens d
 
-  modified_opens : {m : Modifiers} {ts us : List Token} → AreModifiers m ts us → opens (kind_of us) ≡ true → opens (kind_of ts) ≡ true
+  pub modified_opens : {m : Modifiers} {ts us : List Token} → AreModifiers m ts us → opens (kind_of us) ≡ true → opens (kind_of ts) ≡ true
   modified_opens (no_modifier p) h = h
   modified_opens (a_modifier {m = m} {t = t} d q) h = modifier_opens t.kind m q
 
-  noted_opens : {xs : List Annotation} {ts us : List Token} → AreAnnotations tokens xs ts us → opens (kind_of us) ≡ true → opens (kind_of ts) ≡ true
+  pub noted_opens : {xs : List Annotation} {ts us : List Token} → AreAnnotations tokens xs ts us → opens (kind_of us) ≡ true → opens (kind_of ts) ≡ true
   noted_opens (no_annotation f) h = h
   noted_opens (an_annotation p d s l g) h = ap opens (kind_eaten p)
 
-  method_opens : {x : Method} {ts us : List Token} → IsMethod tokens x ts us → opens (kind_of ts) ≡ true
+  pub method_opens : {x : Method} {ts us : List Token} → IsMethod tokens x ts us → opens (kind_of ts) ≡ true
   method_opens (method p m d i e) = noted_opens p (modified_opens m (answer_opens d))
 
-  member_opens : {class : ℕ} {x : Member} {ts us : List Token} → IsMember tokens class x ts us → opens (kind_of ts) ≡ true
+  pub member_opens : {class : ℕ} {x : Member} {ts us : List Token} → IsMember tokens class x ts us → opens (kind_of ts) ≡ true
   member_opens (a_method d) = method_opens d
   member_opens (a_constructor p m n e) = noted_opens p (modified_opens m (name_opens _ (meant n)))
   member_opens (a_field p m d e) = noted_opens p (modified_opens m (type_opens d))
 
-  behind_member_stops : {class : ℕ} {ms : List Member} {ts us : List Token} → AreBehindMember tokens class ms ts us → Stops ts
+  pub behind_member_stops : {class : ℕ} {ms : List Member} {ts us : List Token} → AreBehindMember tokens class ms ts us → Stops ts
   behind_member_stops (members_end p) = let a = ap reach (kind_eaten p) in omega arith
   behind_member_stops (members_go_on p d) = separates_stops p
 
@@ -375,7 +375,7 @@ module _ (tokens : List Token) where
     members_once (member_parted q d) (one_member e f) = let a = member_opens e in let b = separator_opens q in cc
     members_once (one_member e f) (member_parted q d) = let a = member_opens e in let b = separator_opens q in cc
 
-    behind_members_once : {class : ℕ} {xs ys : List Member} {ts us vs : List Token} → AreBehindMember tokens class xs ts us → AreBehindMember tokens class ys ts vs → Same xs us ys vs
+    pub behind_members_once : {class : ℕ} {xs ys : List Member} {ts us vs : List Token} → AreBehindMember tokens class xs ts us → AreBehindMember tokens class ys ts vs → Same xs us ys vs
     behind_members_once (members_end p) (members_end q) = record { tree = refl; rest = same_rest p q }
     behind_members_once {class = class} (members_go_on p d) (members_go_on {ms = ms} {rest = r} q e) = members_once d (along (λ zs. AreMembers tokens class ms zs r) (separates_once p q) e)
     behind_members_once (members_end p) (members_go_on q e) = absurd (separator_or_brace q p)
@@ -399,31 +399,31 @@ module _ (tokens : List Token) where
   -- ---- tops apart from each other
 
   -- a statement where only a declaration can begin
-  data Declares (ts rest : List Token) : Type 0 where
+  pub data Declares (ts rest : List Token) : Type 0 where
     by_decl : {d : Decl} → IsDecl tokens d ts rest → Declares ts rest
     by_names : {us vs : List Token} → EatsKeyword keyword.Def ts us → Eats symbol.LeftParen us vs → Declares ts rest
 
-  declares : {x : Stmt} {ts rest : List Token} → IsStmt tokens x ts rest → Begun ts → Declares ts rest
+  pub declares : {x : Stmt} {ts rest : List Token} → IsStmt tokens x ts rest → Begun ts → Declares ts rest
   declares d (none_begun p) = absurd (no_stmt tokens d p)
   declares (a_decl d) (decl_begun p) = by_decl d
   declares (multiple p q d c e) (decl_begun r) = by_names p q
   declares d (decl_begun p) = let a = stmt_first tokens d in absurd (omega arith)
 
-  modified_begun : {m : Modifiers} {ts us : List Token} → AreModifiers m ts us → Begun us → Begun ts
+  pub modified_begun : {m : Modifiers} {ts us : List Token} → AreModifiers m ts us → Begun us → Begun ts
   modified_begun (no_modifier p) b = b
   modified_begun (a_modifier {m = m} {t = t} {ts = ts} d q) b = modifier_begun t ts t.kind m refl q
 
-  answer_begun : {x : Answer} {n : ℕ} {ts us vs : List Token} → IsAnswer tokens x ts us → EatsAs name_of n us vs → Begun ts
+  pub answer_begun : {x : Answer} {n : ℕ} {ts us vs : List Token} → IsAnswer tokens x ts us → EatsAs name_of n us vs → Begun ts
   answer_begun (a_void p) i = none_begun (keyword_at p)
   answer_begun (an_answer (var_def p)) i = decl_begun (keyword_at p)
   answer_begun (an_answer (var_typed {t = t} {rest = us} p)) i = decl_begun (typed_at t us p (named_token _ (meant i)))
 
   -- a type or `def` doesn't modify
-  type_unmodified : {w : VarType} {ts us : List Token} → IsVarType tokens w ts us → modified (kind_of ts) no_modifiers ≡ None
+  pub type_unmodified : {w : VarType} {ts us : List Token} → IsVarType tokens w ts us → modified (kind_of ts) no_modifiers ≡ None
   type_unmodified (var_def p) = keyword_unmodified p refl
   type_unmodified (var_typed {t = t} p) = type_kind_unmodified t.place t.kind p
 
-  decl_or_method : {d : Decl} {m : Modifiers} {x : Answer} {ps : List Param} {b : List Stmt} {n : ℕ} {ts rest us vs ws xs : List Token} → IsDecl tokens d ts rest → Stops rest
+  pub decl_or_method : {d : Decl} {m : Modifiers} {x : Answer} {ps : List Param} {b : List Stmt} {n : ℕ} {ts rest us vs ws xs : List Token} → IsDecl tokens d ts rest → Stops rest
       → AreModifiers m ts us → IsAnswer tokens x us vs → EatsAs name_of n vs ws → IsRoutine tokens ps b ws xs → ⊥
   decl_or_method (decl (is_final p) v d) h (no_modifier q) a n r = let e = keyword_eaten p in let f = ap (λ c. modified c no_modifiers) (e.1) in cc
   decl_or_method {x = x} {rest = rest} {vs = vs} (decl {vs = vars} (is_final (eats_keyword p)) v d) h (a_modifier m q) a n r =
@@ -435,31 +435,31 @@ module _ (tokens : List Token) where
       let f = answer_type (along (λ zs. IsAnswer tokens x zs vs) (sym e) a) v in
       vars_or_routine (along (λ zs. AreVars tokens vars zs rest) f d) h n r
 
-  type_or_class : {w : VarType} {ts us vs ws : List Token} → ts ≡ us → IsVarType tokens w ts vs → EatsKeyword keyword.Class us ws → ⊥
+  pub type_or_class : {w : VarType} {ts us vs ws : List Token} → ts ≡ us → IsVarType tokens w ts vs → EatsKeyword keyword.Class us ws → ⊥
   type_or_class {ws = ws} e v k = go v (along (λ zs. EatsKeyword keyword.Class zs ws) e k)
     where
       go : {w : VarType} {ts us vs : List Token} → IsVarType tokens w ts us → EatsKeyword keyword.Class ts vs → ⊥
       go (var_def p) k = let a = keywords_agree p k in cc
       go (var_typed {t = t} p) k = let a = keyword_eaten k in let b = ap (type_of t.place) (a.1) in cc
 
-  decl_or_class : {d : Decl} {m : Modifiers} {ts rest us vs : List Token} → IsDecl tokens d ts rest → AreModifiers m ts us → EatsKeyword keyword.Class us vs → ⊥
+  pub decl_or_class : {d : Decl} {m : Modifiers} {ts rest us vs : List Token} → IsDecl tokens d ts rest → AreModifiers m ts us → EatsKeyword keyword.Class us vs → ⊥
   decl_or_class (decl (is_final p) v d) (no_modifier q) k = let a = keywords_agree p k in cc
   decl_or_class (decl (is_final (eats_keyword p)) v d) (a_modifier m q) k = type_or_class (sym (unmodified m (type_unmodified v))) v k
   decl_or_class (decl (not_final g) v d) m k = type_or_class (sym (unmodified m (type_unmodified v))) v k
 
-  names_or_method : {m : Modifiers} {x : Answer} {n : ℕ} {ts us vs ws xs ys : List Token} → EatsKeyword keyword.Def ts us → Eats symbol.LeftParen us vs → AreModifiers m ts ws → IsAnswer tokens x ws xs → EatsAs name_of n xs ys → ⊥
+  pub names_or_method : {m : Modifiers} {x : Answer} {n : ℕ} {ts us vs ws xs ys : List Token} → EatsKeyword keyword.Def ts us → Eats symbol.LeftParen us vs → AreModifiers m ts ws → IsAnswer tokens x ws xs → EatsAs name_of n xs ys → ⊥
   names_or_method {x = x} {xs = xs} p q m a n =
       let e = unmodified m (keyword_unmodified p refl) in
       let f = answer_type (along (λ zs. IsAnswer tokens x zs xs) (sym e) a) (var_def p) in
       let g = meant n in
       let h = ap name_of (ap kind_of f ∙ kind_eaten q) in cc
 
-  names_or_class : {m : Modifiers} {ts us vs ws : List Token} → EatsKeyword keyword.Def ts us → AreModifiers m ts vs → EatsKeyword keyword.Class vs ws → ⊥
+  pub names_or_class : {m : Modifiers} {ts us vs ws : List Token} → EatsKeyword keyword.Def ts us → AreModifiers m ts vs → EatsKeyword keyword.Class vs ws → ⊥
   names_or_class {ws = ws} p m k =
       let e = unmodified m (keyword_unmodified p refl) in
       let a = keywords_agree p (along (λ zs. EatsKeyword keyword.Class zs ws) (sym e) k) in cc
 
-  stmt_or_method : {x : Stmt} {y : Method} {ts us vs : List Token} → IsStmt tokens x ts us → Stops us → IsMethod tokens y ts vs → ⊥
+  pub stmt_or_method : {x : Stmt} {y : Method} {ts us vs : List Token} → IsStmt tokens x ts us → Stops us → IsMethod tokens y ts vs → ⊥
   stmt_or_method d h (method (an_annotation p q s l g) m a n r) = no_stmt tokens d (symbol_at p)
   stmt_or_method {ts = ts} {us = us} d h (method (no_annotation f) m a n r) = go (declares d (modified_begun m (answer_begun a n)))
     where
@@ -467,7 +467,7 @@ module _ (tokens : List Token) where
       go (by_decl e) = decl_or_method e h m a n r
       go (by_names p q) = names_or_method p q m a n
 
-  stmt_or_class : {x : Stmt} {y : ClassTree} {ts us vs : List Token} → IsStmt tokens x ts us → IsClass tokens y ts vs → ⊥
+  pub stmt_or_class : {x : Stmt} {y : ClassTree} {ts us vs : List Token} → IsStmt tokens x ts us → IsClass tokens y ts vs → ⊥
   stmt_or_class d (a_class (an_annotation p q s l g) m k c e f r o b) = no_stmt tokens d (symbol_at p)
   stmt_or_class {ts = ts} {us = us} d (a_class (no_annotation f) m k c e g r o b) = go (declares d (modified_begun m (none_begun (keyword_at k))))
     where
@@ -475,32 +475,32 @@ module _ (tokens : List Token) where
       go (by_decl e) = decl_or_class e m k
       go (by_names p q) = names_or_class p m k
 
-  answer_or_class : {x : Answer} {ts us vs ws : List Token} → ts ≡ us → IsAnswer tokens x ts vs → EatsKeyword keyword.Class us ws → ⊥
+  pub answer_or_class : {x : Answer} {ts us vs ws : List Token} → ts ≡ us → IsAnswer tokens x ts vs → EatsKeyword keyword.Class us ws → ⊥
   answer_or_class {ws = ws} e (an_answer v) k = type_or_class e v k
   answer_or_class {ws = ws} e (a_void p) k = let a = keywords_agree p (along (λ zs. EatsKeyword keyword.Class zs ws) e k) in cc
 
-  method_or_class : {x : Method} {y : ClassTree} {ts us vs : List Token} → IsMethod tokens x ts us → IsClass tokens y ts vs → ⊥
+  pub method_or_class : {x : Method} {y : ClassTree} {ts us vs : List Token} → IsMethod tokens x ts us → IsClass tokens y ts vs → ⊥
   method_or_class (method p m a n r) (a_class {m = m2} {vs = vs2} p2 k c i e f l o b) =
       let d = notes_once p p2 in
       let g = modifiers_once m (along (λ zs. AreModifiers m2 zs vs2) (d.rest) k) in
       answer_or_class (g.rest) a c
 
-  decl_or_noted_method : {xs : List Annotation} {d : Decl} {y : Method} {ts us rest vs : List Token} → AreAnnotations tokens xs ts us → IsDecl tokens d us rest → Stops rest → IsMethod tokens y ts vs → ⊥
+  pub decl_or_noted_method : {xs : List Annotation} {d : Decl} {y : Method} {ts us rest vs : List Token} → AreAnnotations tokens xs ts us → IsDecl tokens d us rest → Stops rest → IsMethod tokens y ts vs → ⊥
   decl_or_noted_method p d h (method {m = m2} {vs = vs2} p2 m a n r) = let e = notes_once p p2 in decl_or_method d h (along (λ zs. AreModifiers m2 zs vs2) (e.rest) m) a n r
 
-  decl_or_noted_class : {xs : List Annotation} {d : Decl} {y : ClassTree} {ts us rest vs : List Token} → AreAnnotations tokens xs ts us → IsDecl tokens d us rest → IsClass tokens y ts vs → ⊥
+  pub decl_or_noted_class : {xs : List Annotation} {d : Decl} {y : ClassTree} {ts us rest vs : List Token} → AreAnnotations tokens xs ts us → IsDecl tokens d us rest → IsClass tokens y ts vs → ⊥
   decl_or_noted_class p d (a_class {m = m2} {vs = vs2} p2 m k c e f l o b) = let g = notes_once p p2 in decl_or_class d (along (λ zs. AreModifiers m2 zs vs2) (g.rest) m) k
 
-  stmt_or_note : {x : Stmt} {n : Annotation} {ns : List Annotation} {ts us vs : List Token} → IsStmt tokens x ts us → AreAnnotations tokens (n ∷ ns) ts vs → ⊥
+  pub stmt_or_note : {x : Stmt} {n : Annotation} {ns : List Annotation} {ts us vs : List Token} → IsStmt tokens x ts us → AreAnnotations tokens (n ∷ ns) ts vs → ⊥
   stmt_or_note d (an_annotation p q s l g) = no_stmt tokens d (symbol_at p)
 
-  stmt_or_import : {x : Stmt} {i : Import} {ts us vs : List Token} → IsStmt tokens x ts us → IsImport i ts vs → ⊥
+  pub stmt_or_import : {x : Stmt} {i : Import} {ts us vs : List Token} → IsStmt tokens x ts us → IsImport i ts vs → ⊥
   stmt_or_import d (an_import p q m) = no_stmt tokens d (keyword_at p)
 
-  import_or_note : {i : Import} {n : Annotation} {ns : List Annotation} {ts us vs : List Token} → IsImport i ts us → AreAnnotations tokens (n ∷ ns) ts vs → ⊥
+  pub import_or_note : {i : Import} {n : Annotation} {ns : List Annotation} {ts us vs : List Token} → IsImport i ts us → AreAnnotations tokens (n ∷ ns) ts vs → ⊥
   import_or_note (an_import p d m) (an_annotation q e s l g) = keyword_or_symbol p q
 
-  import_or_method : {i : Import} {y : Method} {ts us vs : List Token} → IsImport i ts us → IsMethod tokens y ts vs → ⊥
+  pub import_or_method : {i : Import} {y : Method} {ts us vs : List Token} → IsImport i ts us → IsMethod tokens y ts vs → ⊥
   import_or_method (an_import p d m) (method (an_annotation q e s l g) k a n r) = keyword_or_symbol p q
   import_or_method (an_import p d m) (method {a = x} {ws = ws} (no_annotation f) k a n r) = go (along (λ zs. IsAnswer tokens x zs ws) (sym (unmodified k (keyword_unmodified p refl))) a) p
     where
@@ -509,7 +509,7 @@ module _ (tokens : List Token) where
       go (an_answer (var_def q)) p = let a = keywords_agree p q in cc
       go (an_answer (var_typed {t = t} q)) p = let a = keyword_eaten p in let b = ap (type_of t.place) (a.1) in cc
 
-  import_or_class : {i : Import} {y : ClassTree} {ts us vs : List Token} → IsImport i ts us → IsClass tokens y ts vs → ⊥
+  pub import_or_class : {i : Import} {y : ClassTree} {ts us vs : List Token} → IsImport i ts us → IsClass tokens y ts vs → ⊥
   import_or_class (an_import p d m) (a_class (an_annotation q e s l g) k c i x f r o b) = keyword_or_symbol p q
   import_or_class (an_import p d m) (a_class {ws = ws} (no_annotation f) k c i x g r o b) =
       let a = keywords_agree p (along (λ zs. EatsKeyword keyword.Class zs ws) (sym (unmodified k (keyword_unmodified p refl))) c) in cc
@@ -546,28 +546,28 @@ module _ (tokens : List Token) where
 
   -- ---- scripts
 
-  class_opens : {x : ClassTree} {ts us : List Token} → IsClass tokens x ts us → opens (kind_of ts) ≡ true
+  pub class_opens : {x : ClassTree} {ts us : List Token} → IsClass tokens x ts us → opens (kind_of ts) ≡ true
   class_opens (a_class p m k c e f l o d) = noted_opens p (modified_opens m (keyword_opens k))
 
-  import_opens : {x : Import} {ts us : List Token} → IsImport x ts us → opens (kind_of ts) ≡ true
+  pub import_opens : {x : Import} {ts us : List Token} → IsImport x ts us → opens (kind_of ts) ≡ true
   import_opens (an_import p d m) = keyword_opens p
 
-  note_opens : {n : Annotation} {ns : List Annotation} {ts us : List Token} → AreAnnotations tokens (n ∷ ns) ts us → opens (kind_of ts) ≡ true
+  pub note_opens : {n : Annotation} {ns : List Annotation} {ts us : List Token} → AreAnnotations tokens (n ∷ ns) ts us → opens (kind_of ts) ≡ true
   note_opens (an_annotation p d s l g) = ap opens (kind_eaten p)
 
   -- no top begins with a token that opens none and with which no statement begins
-  no_top_here : {x : Top} {ts us : List Token} → IsTop tokens x ts us → opens (kind_of ts) ≡ false → stmt_class ts ≡ 0 → ⊥
+  pub no_top_here : {x : Top} {ts us : List Token} → IsTop tokens x ts us → opens (kind_of ts) ≡ false → stmt_class ts ≡ 0 → ⊥
   no_top_here (top_import d) p q = let a = import_opens d in cc
   no_top_here (top_class d) p q = let a = class_opens d in cc
   no_top_here (top_method d) p q = let a = method_opens d in cc
   no_top_here (top_decl d e) p q = let a = note_opens d in cc
   no_top_here (top_stmt d) p q = no_stmt tokens d q
 
-  behind_top_stops : {xs : List Top} {ts us : List Token} → AreBehindTop tokens xs ts us → Stops ts
+  pub behind_top_stops : {xs : List Top} {ts us : List Token} → AreBehindTop tokens xs ts us → Stops ts
   behind_top_stops (tops_end p) = at_end p
   behind_top_stops (tops_go_on p d) = separates_stops p
 
-  end_class : {ts us : List Token} → EatsEnd ts us → stmt_class ts ≡ 0
+  pub end_class : {ts us : List Token} → EatsEnd ts us → stmt_class ts ≡ 0
   end_class {ts = ts} p = ended_at ts (ap ends_stmts (end_eaten p))
 
   mutual
@@ -585,7 +585,7 @@ module _ (tokens : List Token) where
     tops_once (top_parted p d) (one_top e f) = absurd (no_top_here e (separator_opens p) (separated_at p))
     tops_once (one_top e f) (top_parted p d) = absurd (no_top_here e (separator_opens p) (separated_at p))
 
-    behind_tops_once : {xs ys : List Top} {ts us vs : List Token} → AreBehindTop tokens xs ts us → AreBehindTop tokens ys ts vs → Same xs us ys vs
+    pub behind_tops_once : {xs ys : List Top} {ts us vs : List Token} → AreBehindTop tokens xs ts us → AreBehindTop tokens ys ts vs → Same xs us ys vs
     behind_tops_once (tops_end p) (tops_end q) = record { tree = refl; rest = end_once p q }
     behind_tops_once (tops_go_on p d) (tops_go_on {xs = xs} {rest = r} q e) = tops_once d (along (λ zs. AreTops tokens xs zs r) (separates_once p q) e)
     behind_tops_once (tops_end p) (tops_go_on q e) = absurd (separator_or_end q p)

@@ -108,10 +108,10 @@ symbol_at (eats {rest = rest} p) = ap (λ c. class_before c rest) p
 pub keyword_at : {k : Keyword} {ts rest : List Token} → EatsKeyword k ts rest → stmt_class ts ≡ keyword_stmt_class k
 keyword_at (eats_keyword {rest = rest} p) = ap (λ c. class_before c rest) p
 
-line_at : {ts rest : List Token} → EatsLine ts rest → stmt_class ts ≡ 0
+pub line_at : {ts rest : List Token} → EatsLine ts rest → stmt_class ts ≡ 0
 line_at (eats_line {rest = rest} p) = ap (λ c. class_before c rest) p
 
-symbol_value : (s : Symbol) → class (kind.Symbol s) < 7 → kind.Symbol s ≢ kind.Symbol symbol.LeftBrace → symbol_stmt_class s ≡ 1
+pub symbol_value : (s : Symbol) → class (kind.Symbol s) < 7 → kind.Symbol s ≢ kind.Symbol symbol.LeftBrace → symbol_stmt_class s ≡ 1
 symbol_value symbol.LeftParen p q = refl
 symbol_value symbol.LeftBracket p q = refl
 symbol_value symbol.LeftBrace p q = absurd (q refl)
@@ -122,7 +122,7 @@ symbol_value symbol.Increment p q = refl
 symbol_value symbol.Decrement p q = refl
 symbol_value s p q = absurd (omega arith)
 
-keyword_value : (k : Keyword) → keyword_class k < 7 → keyword_stmt_class k ≡ 1
+pub keyword_value : (k : Keyword) → keyword_class k < 7 → keyword_stmt_class k ≡ 1
 keyword_value keyword.Null p = refl
 keyword_value keyword.True p = refl
 keyword_value keyword.False p = refl
@@ -131,7 +131,7 @@ keyword_value keyword.Super p = refl
 keyword_value keyword.New p = refl
 keyword_value k p = absurd (omega arith)
 
-kind_value : (c : TokenKind) → class c < 7 → c ≢ kind.Symbol symbol.LeftBrace → kind_stmt_class c ≡ 1
+pub kind_value : (c : TokenKind) → class c < 7 → c ≢ kind.Symbol symbol.LeftBrace → kind_stmt_class c ≡ 1
 kind_value (kind.Word word.Name n) p q = refl
 kind_value (kind.Word word.TypeName n) p q = refl
 kind_value (kind.Word (word.Keyword k) n) p q = keyword_value k p
@@ -142,11 +142,11 @@ kind_value (kind.Text (piece.Head f) n) p q = refl
 kind_value (kind.Symbol s) p q = symbol_value s p q
 kind_value other p q = absurd (omega arith)
 
-symbol_open : (s : Symbol) → symbol_stmt_class s < 2
+pub symbol_open : (s : Symbol) → symbol_stmt_class s < 2
 symbol_open symbol.LeftParen = omega arith
 symbol_open s = omega arith
 
-kind_open : (c : TokenKind) → class c < 7 → kind_stmt_class c < 2
+pub kind_open : (c : TokenKind) → class c < 7 → kind_stmt_class c < 2
 kind_open (kind.Word (word.Keyword k) n) p = let a = keyword_value k p in omega arith
 kind_open (kind.Symbol s) p = symbol_open s
 kind_open (kind.Text piece.Whole n) p = omega arith
@@ -154,7 +154,7 @@ kind_open (kind.Text q n) p = omega arith
 kind_open (kind.Word word.Name n) p = omega arith
 kind_open other p = omega arith
 
-value_at : (ts : List Token) → class (kind_of ts) < 7 → kind_of ts ≢ kind.Symbol symbol.LeftBrace → begins_typed ts ≡ false → stmt_class ts ≡ 1
+pub value_at : (ts : List Token) → class (kind_of ts) < 7 → kind_of ts ≢ kind.Symbol symbol.LeftBrace → begins_typed ts ≡ false → stmt_class ts ≡ 1
 value_at [] p q r = absurd (omega arith)
 value_at (t ∷ ts) p q r = ap (λ b. if b then 2 else kind_stmt_class t.kind) r ∙ kind_value t.kind p q
 
@@ -163,7 +163,7 @@ pub open_at : (ts : List Token) → class (kind_of ts) < 7 → begins_typed ts �
 open_at [] p r = omega arith
 open_at (t ∷ ts) p r = let a : stmt_class (t ∷ ts) ≡ kind_stmt_class t.kind = ap (λ b. if b then 2 else kind_stmt_class t.kind) r in let b = kind_open t.kind p in omega arith
 
-typed_before : (place : Place) (c : TokenKind) (ts : List Token) {type : TypeTree} → type_of place c ≡ Some type → is_name_token (kind_of ts) ≡ true → class_before c ts ≡ 2
+pub typed_before : (place : Place) (c : TokenKind) (ts : List Token) {type : TypeTree} → type_of place c ≡ Some type → is_name_token (kind_of ts) ≡ true → class_before c ts ≡ 2
 typed_before place (kind.Word (word.Keyword keyword.Int) n) ts p q = refl
 typed_before place (kind.Word (word.Keyword keyword.Long) n) ts p q = refl
 typed_before place (kind.Word (word.Keyword keyword.Boolean) n) ts p q = refl
@@ -174,12 +174,12 @@ typed_before place other ts p q = cc
 pub typed_at : (t : Token) (ts : List Token) {type : TypeTree} → type_of t.place t.kind ≡ Some type → is_name_token (kind_of ts) ≡ true → stmt_class (t ∷ ts) ≡ 2
 typed_at t ts p q = typed_before t.place t.kind ts p q
 
-keyword_ended : (k : Keyword) → keyword_ends_stmts k ≡ true → keyword_stmt_class k ≡ 0
+pub keyword_ended : (k : Keyword) → keyword_ends_stmts k ≡ true → keyword_stmt_class k ≡ 0
 keyword_ended keyword.Case p = refl
 keyword_ended keyword.Default p = refl
 keyword_ended k p = cc
 
-kind_ended : (c : TokenKind) (ts : List Token) → ends_stmts c ≡ true → class_before c ts ≡ 0
+pub kind_ended : (c : TokenKind) (ts : List Token) → ends_stmts c ≡ true → class_before c ts ≡ 0
 kind_ended (kind.Symbol symbol.RightBrace) ts p = refl
 kind_ended (kind.Word (word.Keyword k) n) ts p = keyword_ended k p
 kind_ended kind.End ts p = refl
@@ -218,11 +218,11 @@ module _ (tokens : List Token) where
   pub full_value_first : {x : Expr} {ts rest : List Token} → IsFullValue tokens x ts rest → class (kind_of ts) < 7
   full_value_first (full_value d r) = full_first _ d
 
-  var_named : {v : Var} {ts rest : List Token} → IsVar tokens v ts rest → is_name_token (kind_of ts) ≡ true
+  pub var_named : {v : Var} {ts rest : List Token} → IsVar tokens v ts rest → is_name_token (kind_of ts) ≡ true
   var_named (var_alone p f) = named_token _ (meant p)
   var_named (var_initial p q d) = named_token _ (meant p)
 
-  vars_named : {vs : List Var} {ts rest : List Token} → AreVars tokens vs ts rest → is_name_token (kind_of ts) ≡ true
+  pub vars_named : {vs : List Var} {ts rest : List Token} → AreVars tokens vs ts rest → is_name_token (kind_of ts) ≡ true
   vars_named (last_var d f) = var_named d
   vars_named (more_vars d c g) = var_named d
 
@@ -271,7 +271,7 @@ module _ (tokens : List Token) where
   stmt_first (assert_alone p d f) = keyword_at p
   stmt_first (assert_message p d c e) = keyword_at p
 
-  numbered : {x : Stmt} {ts rest : List Token} (d : IsStmt tokens x ts rest) → 0 < stmt_number d
+  pub numbered : {x : Stmt} {ts rest : List Token} (d : IsStmt tokens x ts rest) → 0 < stmt_number d
   numbered (a_decl d) = omega arith
   numbered d = omega arith
 
@@ -285,15 +285,15 @@ module _ (tokens : List Token) where
   is_word (kind.Word w n) = true
   is_word other = false
 
-  name_word : (c : TokenKind) → is_name_token c ≡ true → is_word c ≡ true
+  pub name_word : (c : TokenKind) → is_name_token c ≡ true → is_word c ≡ true
   name_word (kind.Word w n) p = refl
   name_word other p = cc
 
-  type_word : (place : Place) (c : TokenKind) {type : TypeTree} → type_of place c ≡ Some type → is_word c ≡ true
+  pub type_word : (place : Place) (c : TokenKind) {type : TypeTree} → type_of place c ≡ Some type → is_word c ≡ true
   type_word place (kind.Word w n) p = refl
   type_word place other p = cc
 
-  keyword_word : {k : Keyword} {ts rest : List Token} → EatsKeyword k ts rest → is_word (kind_of ts) ≡ true
+  pub keyword_word : {k : Keyword} {ts rest : List Token} → EatsKeyword k ts rest → is_word (kind_of ts) ≡ true
   keyword_word (eats_keyword p) = ap is_word p
 
   pub param_first : {r : Bool} {p : Param} {ts rest : List Token} → IsParam tokens r p ts rest → is_word (kind_of ts) ≡ true

@@ -61,13 +61,13 @@ keyword_or_name (eats_keyword p) q = let a = ap is_name_token p in cc
 pub keyword_after : {k : Keyword} {ts us vs ws : List Token} → ts ≡ us → EatsKeyword k ts vs → EatsKeyword k us ws → vs ≡ ws
 keyword_after {k = k} {ws = ws} e p q = keyword_same p (along (λ zs. EatsKeyword k zs ws) e q)
 
-line_same : {ts us vs : List Token} → EatsLine ts us → EatsLine ts vs → us ≡ vs
+pub line_same : {ts us vs : List Token} → EatsLine ts us → EatsLine ts vs → us ≡ vs
 line_same (eats_line p) (eats_line q) = refl
 
 pub at_else : {ts rest : List Token} → EatsKeyword keyword.Else ts rest → Stops ts
 at_else (eats_keyword p) = let a = ap reach p in omega arith
 
-at_semicolon : {ts rest : List Token} → Eats symbol.Semicolon ts rest → Stops ts
+pub at_semicolon : {ts rest : List Token} → Eats symbol.Semicolon ts rest → Stops ts
 at_semicolon p = let a = ap reach (kind_eaten p) in omega arith
 
 pub separates_once : {ts us vs : List Token} → Separates ts us → Separates ts vs → us ≡ vs
@@ -86,19 +86,19 @@ may_line_once (no_line p) (no_line q) = refl
 may_line_once (a_line p d) (no_line q) = absurd (q (line_eaten p))
 may_line_once (no_line p) (a_line q e) = absurd (p (line_eaten q))
 
-keyword_ends_stops : (k : Keyword) (n : ℕ) → ends_stmts (kind.Word (word.Keyword k) n) ≡ true → reach (kind.Word (word.Keyword k) n) ≡ 13
+pub keyword_ends_stops : (k : Keyword) (n : ℕ) → ends_stmts (kind.Word (word.Keyword k) n) ≡ true → reach (kind.Word (word.Keyword k) n) ≡ 13
 keyword_ends_stops keyword.Case n p = refl
 keyword_ends_stops keyword.Default n p = refl
 keyword_ends_stops k n p = cc
 
-ends_stops : (c : TokenKind) → ends_stmts c ≡ true → reach c ≡ 13
+pub ends_stops : (c : TokenKind) → ends_stmts c ≡ true → reach c ≡ 13
 ends_stops (kind.Symbol symbol.RightBrace) p = refl
 ends_stops (kind.Word (word.Keyword k) n) p = keyword_ends_stops k n p
 ends_stops kind.End p = refl
 ends_stops other p = cc
 
 -- statements don't end before what separates them
-ends_or_separates : {ts us : List Token} → ends_stmts (kind_of ts) ≡ true → Separates ts us → ⊥
+pub ends_or_separates : {ts us : List Token} → ends_stmts (kind_of ts) ≡ true → Separates ts us → ⊥
 ends_or_separates p (by_line q) = let a = ap ends_stmts (line_eaten q) in cc
 ends_or_separates p (by_semicolon q) = let a = ap ends_stmts (kind_eaten q) in cc
 
@@ -109,12 +109,12 @@ pub type_or_final : (place : Place) (c : TokenKind) {n : ℕ} {type : TypeTree} 
 type_or_final place c p q = let a = ap (type_of place) q in cc
 
 -- a type that is a name too is a class's
-type_name : (place : Place) (c : TokenKind) {type : TypeTree} → type_of place c ≡ Some type → is_name_token c ≡ true → is_type_name c ≡ true
+pub type_name : (place : Place) (c : TokenKind) {type : TypeTree} → type_of place c ≡ Some type → is_name_token c ≡ true → is_type_name c ≡ true
 type_name place (kind.Word word.TypeName n) p q = refl
 type_name place (kind.Word (word.Keyword k) n) p q = cc
 type_name place other p q = cc
 
-in_operator : {ts rest : List Token} → EatsKeyword keyword.In ts rest → binary_of (kind_of ts) ≡ Some binary.In
+pub in_operator : {ts rest : List Token} → EatsKeyword keyword.In ts rest → binary_of (kind_of ts) ≡ Some binary.In
 in_operator (eats_keyword p) = ap binary_of p
 
 module _ (tokens : List Token) where
@@ -132,19 +132,19 @@ module _ (tokens : List Token) where
   var_type_once (var_def p) (var_typed {t = t} q) = let a = keyword_eaten p in absurd (type_or_def t.place t.kind q (a.1))
   var_type_once (var_typed {t = t} p) (var_def q) = let a = keyword_eaten q in absurd (type_or_def t.place t.kind p (a.1))
 
-  record SameTyped (r : Bool) (w : Option VarType) (ts : List Token) (s : Bool) (v : Option VarType) (us : List Token) : Type 0 where
-    is_rest : r ≡ s
-    written : w ≡ v
-    behind : ts ≡ us
+  pub record SameTyped (r : Bool) (w : Option VarType) (ts : List Token) (s : Bool) (v : Option VarType) (us : List Token) : Type 0 where
+    pub is_rest : r ≡ s
+    pub written : w ≡ v
+    pub behind : ts ≡ us
 
   -- a type's name before a name is no name of a parameter
-  untyped_or_type : (t : Token) (ts : List Token) {type : TypeTree} → is_name_token t.kind ≡ true → begins_typed (t ∷ ts) ≡ false → type_of t.place t.kind ≡ Some type → is_name_token (kind_of ts) ≡ true → ⊥
+  pub untyped_or_type : (t : Token) (ts : List Token) {type : TypeTree} → is_name_token t.kind ≡ true → begins_typed (t ∷ ts) ≡ false → type_of t.place t.kind ≡ Some type → is_name_token (kind_of ts) ≡ true → ⊥
   untyped_or_type t ts n f p q = let a = type_name t.place t.kind p n in cc
 
-  untyped_or_rest : {t : Token} {ts us ws : List Token} {n : ℕ} → EatsAs name_of n (t ∷ ts) ws → kind_of ws ≢ kind.Symbol symbol.Ellipsis → Eats symbol.Ellipsis ts us → ⊥
+  pub untyped_or_rest : {t : Token} {ts us ws : List Token} {n : ℕ} → EatsAs name_of n (t ∷ ts) ws → kind_of ws ≢ kind.Symbol symbol.Ellipsis → Eats symbol.Ellipsis ts us → ⊥
   untyped_or_rest (eats_as p) f q = f (kind_eaten q)
 
-  typed_once : {r s : Bool} {w v : Option VarType} {n m : ℕ} {ts us vs ws xs : List Token} → MayTyped tokens r w ts us → EatsAs name_of n us ws → kind_of ws ≢ kind.Symbol symbol.Ellipsis
+  pub typed_once : {r s : Bool} {w v : Option VarType} {n m : ℕ} {ts us vs ws xs : List Token} → MayTyped tokens r w ts us → EatsAs name_of n us ws → kind_of ws ≢ kind.Symbol symbol.Ellipsis
       → MayTyped tokens s v ts vs → EatsAs name_of m vs xs → kind_of xs ≢ kind.Symbol symbol.Ellipsis → SameTyped r w us s v vs
   typed_once (untyped a b) n f (untyped a2 b2) n2 f2 = record { is_rest = refl; written = refl; behind = refl }
   typed_once (untyped a b) n f (with_def p) n2 f2 = absurd (keyword_or_name p a)
@@ -164,7 +164,7 @@ module _ (tokens : List Token) where
   typed_once (with_rest {type = a} p q) n f (with_rest {type = b} p2 q2) n2 f2 =
       let h : a ≡ b = cc in record { is_rest = refl; written = ap (λ c. Some (var.Typed c)) h; behind = same_rest q q2 }
 
-  names_once : {xs ys : List Ident} {ts us vs : List Token} → AreNames tokens xs ts us → AreNames tokens ys ts vs → Same xs us ys vs
+  pub names_once : {xs ys : List Ident} {ts us vs : List Token} → AreNames tokens xs ts us → AreNames tokens ys ts vs → Same xs us ys vs
   names_once {ts = ts} (last_of_names p c) (last_of_names p2 c2) = let a = as_same p p2 in record { tree = ap (λ n. ident (place_of ts) n ∷ []) (a.tree); rest = eaten_same (a.rest) c c2 }
   names_once {ts = ts} (more_names p c d) (more_names {ns = ns} {rest = r} p2 c2 d2) =
       let a = as_same p p2 in
@@ -173,25 +173,25 @@ module _ (tokens : List Token) where
   names_once (last_of_names p c) (more_names p2 c2 d2) = let a = as_same p p2 in let b = apart (a.rest) c c2 in cc
   names_once (more_names p c d) (last_of_names p2 c2) = let a = as_same p p2 in let b = apart (a.rest) c c2 in cc
 
-  for_in_once : {ts us vs : List Token} → IsForIn tokens ts us → IsForIn tokens ts vs → us ≡ vs
+  pub for_in_once : {ts us vs : List Token} → IsForIn tokens ts us → IsForIn tokens ts vs → us ≡ vs
   for_in_once (by_in p) (by_in q) = keyword_same p q
   for_in_once (by_colon p) (by_colon q) = same_rest p q
   for_in_once (by_in p) (by_colon q) = absurd (keyword_or_symbol p q)
   for_in_once (by_colon p) (by_in q) = absurd (keyword_or_symbol q p)
 
-  for_in_plain : {s : Symbol} {ts us vs ws : List Token} → ts ≡ us → IsForIn tokens ts vs → Eats s us ws → kind.Symbol s ≡ kind.Symbol symbol.Colon
+  pub for_in_plain : {s : Symbol} {ts us vs ws : List Token} → ts ≡ us → IsForIn tokens ts vs → Eats s us ws → kind.Symbol s ≡ kind.Symbol symbol.Colon
   for_in_plain {s = s} {ws = ws} e i q = go i (along (λ zs. Eats s zs ws) e q)
     where
       go : {s : Symbol} {ts us vs : List Token} → IsForIn tokens ts us → Eats s ts vs → kind.Symbol s ≡ kind.Symbol symbol.Colon
       go (by_in p) q = absurd (keyword_or_symbol p q)
       go (by_colon p) q = sym (kind_eaten q) ∙ kind_eaten p
 
-  for_in_rest : {ts us : List Token} → IsForIn tokens ts us → kind_of ts ≢ kind.Symbol symbol.Ellipsis
+  pub for_in_rest : {ts us : List Token} → IsForIn tokens ts us → kind_of ts ≢ kind.Symbol symbol.Ellipsis
   for_in_rest (by_in p) h = let a = keyword_eaten p in let b = a.1 in cc
   for_in_rest (by_colon p) h = let a = kind_eaten p in cc
 
   -- a name or `|` stands behind a type, if there is one
-  types_once : {xs ys : List TypeTree} {ts us vs : List Token} → AreTypes tokens xs ts us → AreTypes tokens ys ts vs → Same xs us ys vs
+  pub types_once : {xs ys : List TypeTree} {ts us vs : List Token} → AreTypes tokens xs ts us → AreTypes tokens ys ts vs → Same xs us ys vs
   types_once (last_type {type = a} p q) (last_type {type = b} p2 q2) = let h : a ≡ b = cc in record { tree = ap (λ w. w ∷ []) h; rest = refl }
   types_once (more_types {type = a} p c d) (more_types {type = b} {types = ys} {rest = r} p2 c2 d2) =
       let h : a ≡ b = cc in
@@ -200,11 +200,11 @@ module _ (tokens : List Token) where
   types_once (last_type p q) (more_types p2 c d) = let a = ap is_name_token (kind_eaten c) in cc
   types_once (more_types p c d) (last_type p2 q) = let a = ap is_name_token (kind_eaten c) in cc
 
-  untyped_or_types : {xs : List TypeTree} {ts us : List Token} → is_name_token (kind_of ts) ≡ true → begins_types ts ≡ false → AreTypes tokens xs ts us → ⊥
+  pub untyped_or_types : {xs : List TypeTree} {ts us : List Token} → is_name_token (kind_of ts) ≡ true → begins_types ts ≡ false → AreTypes tokens xs ts us → ⊥
   untyped_or_types n f (last_type {t = t} p q) = let a = type_name t.place t.kind p n in cc
   untyped_or_types n f (more_types {t = t} {us = us} p c d) = let a = type_name t.place t.kind p n in let b = ap is_bar (kind_eaten c) in let e = ap is_name_token (kind_eaten c) in cc
 
-  may_types_once : {xs ys : List TypeTree} {ts us vs : List Token} → MayTypes tokens xs ts us → MayTypes tokens ys ts vs → Same xs us ys vs
+  pub may_types_once : {xs ys : List TypeTree} {ts us vs : List Token} → MayTypes tokens xs ts us → MayTypes tokens ys ts vs → Same xs us ys vs
   may_types_once (no_types p q) (no_types p2 q2) = record { tree = refl; rest = refl }
   may_types_once (some_types d) (some_types d2) = types_once d d2
   may_types_once (no_types p q) (some_types d) = absurd (untyped_or_types p q d)
@@ -213,19 +213,19 @@ module _ (tokens : List Token) where
   -- ---- two forms of `for`
 
   -- `in` or `:` doesn't follow the name of a declared variable
-  vars_or_in : {vs : List Var} {n : ℕ} {ts us ws xs ys : List Token} → AreVars tokens vs ts us → Eats symbol.Semicolon us ws → EatsAs name_of n ts xs → IsForIn tokens xs ys → ⊥
+  pub vars_or_in : {vs : List Var} {n : ℕ} {ts us ws xs ys : List Token} → AreVars tokens vs ts us → Eats symbol.Semicolon us ws → EatsAs name_of n ts xs → IsForIn tokens xs ys → ⊥
   vars_or_in (last_var (var_alone p f) g) s n i = let a = as_same n p in let b = for_in_plain (a.rest) i s in cc
   vars_or_in (last_var (var_initial p e d) g) s n i = let a = as_same n p in let b = for_in_plain (a.rest) i e in cc
   vars_or_in (more_vars (var_alone p f) c d) s n i = let a = as_same n p in let b = for_in_plain (a.rest) i c in cc
   vars_or_in (more_vars (var_initial p e g) c d) s n i = let a = as_same n p in let b = for_in_plain (a.rest) i e in cc
 
-  decl_or_in : {d : Decl} {w : VarType} {n : ℕ} {ts us vs ws xs ys : List Token} → IsDecl tokens d ts us → Eats symbol.Semicolon us vs → IsVarType tokens w ts ws → EatsAs name_of n ws xs → IsForIn tokens xs ys → ⊥
+  pub decl_or_in : {d : Decl} {w : VarType} {n : ℕ} {ts us vs ws xs ys : List Token} → IsDecl tokens d ts us → Eats symbol.Semicolon us vs → IsVarType tokens w ts ws → EatsAs name_of n ws xs → IsForIn tokens xs ys → ⊥
   decl_or_in (decl (is_final p) v d) s (var_def q) n i = let a = keywords_agree p q in cc
   decl_or_in (decl (is_final p) v d) s (var_typed {t = t} q) n i = let a = keyword_eaten p in type_or_final t.place t.kind q (a.1)
   decl_or_in (decl {vs = vs} {rest = r} (not_final p) v d) s w n i = let a = var_type_once w v in vars_or_in (along (λ zs. AreVars tokens vs zs r) (a.rest) d) s n i
 
   -- the name of the loop is no expression before a semicolon
-  value_or_in : {x y : Expr} {n : ℕ} {ts us vs xs ys zs ws : List Token} → IsExpr (length tokens) x ts us → Eats symbol.Semicolon us vs → EatsAs name_of n ts xs → IsForIn tokens xs ys
+  pub value_or_in : {x y : Expr} {n : ℕ} {ts us vs xs ys zs ws : List Token} → IsExpr (length tokens) x ts us → Eats symbol.Semicolon us vs → EatsAs name_of n ts xs → IsForIn tokens xs ys
       → IsExpr (length tokens) y ys zs → Eats symbol.RightParen zs ws → ⊥
   value_or_in {ts = ts} d s n (by_colon c) e r = key_apart _ d (key_word (eats_key n)) (λ h. omega arith) c (λ h. let a = kind_eaten s in cc)
     where
@@ -236,7 +236,7 @@ module _ (tokens : List Token) where
       let b = ended (omega arith) (meet_expr _ (a.1) e) (at_semicolon s) (at_paren r) in
       let c = apart (b.rest) s r in cc
 
-  for_apart : {w : Option VarType} {j : Option Stmt} {n : ℕ} {y : Expr} {ts us vs ws xs ys zs qs : List Token} → MayTyped tokens false w ts ws → EatsAs name_of n ws xs → IsForIn tokens xs ys
+  pub for_apart : {w : Option VarType} {j : Option Stmt} {n : ℕ} {y : Expr} {ts us vs ws xs ys zs qs : List Token} → MayTyped tokens false w ts ws → EatsAs name_of n ws xs → IsForIn tokens xs ys
       → IsValue tokens y ys zs → Eats symbol.RightParen zs qs → MayBegin tokens j ts us → Eats symbol.Semicolon us vs → ⊥
   for_apart {ts = ts} (untyped a b) n i (value d q) r (begin_decl e) s = let c = decl_first tokens e in let f = open_at ts (let g = named_class (kind_of ts) a in omega arith) b in omega arith
   for_apart (untyped a b) n i (value d q) r (begin_value f (value e q2)) s = value_or_in e s n i d r
@@ -250,30 +250,30 @@ module _ (tokens : List Token) where
 
   -- ---- where a parameter ends
 
-  record Behind (ts : List Token) : Type 0 where
-    stops : Stops ts
-    no_rest : kind_of ts ≢ kind.Symbol symbol.Ellipsis
+  pub record Behind (ts : List Token) : Type 0 where
+    pub stops : Stops ts
+    pub no_rest : kind_of ts ≢ kind.Symbol symbol.Ellipsis
 
   -- what closes parameters
   pub data Closes : Symbol → Type 0 where
     by_arrow : Closes symbol.Arrow
     by_paren : Closes symbol.RightParen
 
-  closes : {c : Symbol} {ts rest : List Token} → Closes c → Eats c ts rest → Behind ts
+  pub closes : {c : Symbol} {ts rest : List Token} → Closes c → Eats c ts rest → Behind ts
   closes by_arrow p = let a = ap reach (kind_eaten p) in record { stops = omega arith; no_rest = λ h. let b = kind_eaten p in cc }
   closes by_paren p = let a = ap reach (kind_eaten p) in record { stops = omega arith; no_rest = λ h. let b = kind_eaten p in cc }
 
-  comma_behind : {ts rest : List Token} → Eats symbol.Comma ts rest → Behind ts
+  pub comma_behind : {ts rest : List Token} → Eats symbol.Comma ts rest → Behind ts
   comma_behind p = record { stops = at_comma p; no_rest = λ h. let b = kind_eaten p in cc }
 
-  close_or_comma : {c : Symbol} {ts us vs ws : List Token} → Closes c → ts ≡ us → Eats c ts vs → Eats symbol.Comma us ws → ⊥
+  pub close_or_comma : {c : Symbol} {ts us vs ws : List Token} → Closes c → ts ≡ us → Eats c ts vs → Eats symbol.Comma us ws → ⊥
   close_or_comma by_arrow e p q = let a = apart e p q in cc
   close_or_comma by_paren e p q = let a = apart e p q in cc
 
-  close_or_word : {c : Symbol} {ts rest : List Token} → Eats c ts rest → is_word tokens (kind_of ts) ≡ true → ⊥
+  pub close_or_word : {c : Symbol} {ts rest : List Token} → Eats c ts rest → is_word tokens (kind_of ts) ≡ true → ⊥
   close_or_word p h = let a = ap (is_word tokens) (kind_eaten p) in cc
 
-  initial_rest : {i : Option Expr} {ts rest : List Token} → MayInitial tokens i ts rest → kind_of rest ≢ kind.Symbol symbol.Ellipsis → kind_of ts ≢ kind.Symbol symbol.Ellipsis
+  pub initial_rest : {i : Option Expr} {ts rest : List Token} → MayInitial tokens i ts rest → kind_of rest ≢ kind.Symbol symbol.Ellipsis → kind_of ts ≢ kind.Symbol symbol.Ellipsis
   initial_rest (an_initial p d r) f h = let a = kind_eaten p in cc
   initial_rest (no_initial g) f h = f h
 
@@ -293,17 +293,17 @@ module _ (tokens : List Token) where
   catch_of ts types ws n b = roll-Catch (record { place = place_of ts; types = types; ident = ident (place_of ws) n; body = b })
 
   -- no statement begins with a brace
-  block_or_stmt : {b : List Stmt} {x : Stmt} {ts us vs : List Token} → IsBlock tokens b ts us → IsStmt tokens x ts vs → ⊥
+  pub block_or_stmt : {b : List Stmt} {x : Stmt} {ts us vs : List Token} → IsBlock tokens b ts us → IsStmt tokens x ts vs → ⊥
   block_or_stmt (block p d q) e = no_stmt tokens e (brace_at p)
 
-  after_stops : {b : List Stmt} {ts rest : List Token} → AreAfter tokens b ts rest → Stops ts
+  pub after_stops : {b : List Stmt} {ts rest : List Token} → AreAfter tokens b ts rest → Stops ts
   after_stops {ts = ts} (ended_here p) = let a = ends_stops (kind_of ts) p in omega arith
   after_stops (goes_on p d) = separates_stops p
 
-  begins_nothing : (ts : List Token) → class (kind_of ts) < 7 → begins_expr (kind_of ts) ≡ false → ⊥
+  pub begins_nothing : (ts : List Token) → class (kind_of ts) < 7 → begins_expr (kind_of ts) ≡ false → ⊥
   begins_nothing ts p q = let a = begins_class (kind_of ts) p in cc
 
-  decl_or_multiple : {d : Decl} {ts us vs rest : List Token} → IsDecl tokens d ts rest → EatsKeyword keyword.Def ts us → Eats symbol.LeftParen us vs → ⊥
+  pub decl_or_multiple : {d : Decl} {ts us vs rest : List Token} → IsDecl tokens d ts rest → EatsKeyword keyword.Def ts us → Eats symbol.LeftParen us vs → ⊥
   decl_or_multiple (decl (is_final p) v d) q o = let a = keywords_agree p q in cc
   decl_or_multiple (decl (not_final f) (var_typed {t = t} p) d) q o = let a = keyword_eaten q in type_or_def t.place t.kind p (a.1)
   decl_or_multiple (decl {vs = vs} {rest = r} (not_final f) (var_def p) d) q o = named d (keyword_same p q) o
@@ -314,11 +314,11 @@ module _ (tokens : List Token) where
       named (more_vars (var_alone p f) c d) e q = let a = ap name_of (ap kind_of e ∙ kind_eaten q) in let b = meant p in cc
       named (more_vars (var_initial p g h) c d) e q = let a = ap name_of (ap kind_of e ∙ kind_eaten q) in let b = meant p in cc
 
-  some_params_word : {c : Symbol} {xs : List Param} {ts rest : List Token} → AreSomeParams tokens c xs ts rest → is_word tokens (kind_of ts) ≡ true
+  pub some_params_word : {c : Symbol} {xs : List Param} {ts rest : List Token} → AreSomeParams tokens c xs ts rest → is_word tokens (kind_of ts) ≡ true
   some_params_word (last_param d c) = param_first tokens d
   some_params_word (more_params d c g) = param_first tokens d
 
-  case_or_separates : {x : List Case} {ts us rest : List Token} → AreSomeCases tokens x ts rest → Separates ts us → ⊥
+  pub case_or_separates : {x : List Case} {ts us rest : List Token} → AreSomeCases tokens x ts rest → Separates ts us → ⊥
   case_or_separates (no_case p) s = ends_or_separates (ap ends_stmts (kind_eaten p)) s
   case_or_separates (a_case p d c b g) s = let a = keyword_eaten p in ends_or_separates (ap ends_stmts (a.1)) s
   case_or_separates (a_default p c b g) s = let a = keyword_eaten p in ends_or_separates (ap ends_stmts (a.1)) s
@@ -344,7 +344,7 @@ module _ (tokens : List Token) where
     params_once h (no_param p) (some_params e) = absurd (close_or_word p (some_params_word e))
     params_once h (some_params d) (no_param q) = absurd (close_or_word q (some_params_word d))
 
-    some_params_once : {c : Symbol} {xs ys : List Param} {ts us vs : List Token} → Closes c → AreSomeParams tokens c xs ts us → AreSomeParams tokens c ys ts vs → Same xs us ys vs
+    pub some_params_once : {c : Symbol} {xs ys : List Param} {ts us vs : List Token} → Closes c → AreSomeParams tokens c xs ts us → AreSomeParams tokens c ys ts vs → Same xs us ys vs
     some_params_once h (last_param d c) (last_param e c2) =
         let a = param_once d e (closes h c) (closes h c2) in record { tree = ap (λ w. w ∷ []) (a.tree); rest = eaten_same (a.rest) c c2 }
     some_params_once h (last_param d c) (more_params e c2 g) = let a = param_once d e (closes h c) (comma_behind c2) in absurd (close_or_comma h (a.rest) c c2)
@@ -354,7 +354,7 @@ module _ (tokens : List Token) where
         let b = some_params_once h g (along (λ zs. AreSomeParams tokens close ys zs r) (eaten_same (a.rest) c c2) g2) in
         record { tree = ap2 (λ w v. w ∷ v) (a.tree) (b.tree); rest = b.rest }
 
-    param_once : {r s : Bool} {x y : Param} {ts us vs : List Token} → IsParam tokens r x ts us → IsParam tokens s y ts vs → Behind us → Behind vs → Same x us y vs
+    pub param_once : {r s : Bool} {x y : Param} {ts us vs : List Token} → IsParam tokens r x ts us → IsParam tokens s y ts vs → Behind us → Behind vs → Same x us y vs
     param_once {r = r} {s = s} (param {final = f} {written = w} {n = n} {initial = i} {vs = vs} p t m d) (param {final = f2} {written = w2} {n = n2} {initial = i2} {us = us2} {vs = vs2} {ws = ws2} {rest = r2} p2 t2 m2 d2) h k =
         let a = final_once p p2 in
         let b = typed_once t m (initial_rest d h.no_rest) (along (λ zs. MayTyped tokens s w2 zs vs2) (a.rest) t2) m2 (initial_rest d2 k.no_rest) in
@@ -362,7 +362,7 @@ module _ (tokens : List Token) where
         let e = initial_once d (along (λ zs. MayInitial tokens i2 zs r2) (c.rest) d2) h.stops k.stops in
         record { tree = ap3 (λ f r w. param_of f r w vs n i) (a.tree) (b.is_rest) (b.written) ∙ ap3 (λ vs n i. param_of f2 s w2 vs n i) (b.behind) (c.tree) (e.tree); rest = e.rest }
 
-    initial_once : {x y : Option Expr} {ts us vs : List Token} → MayInitial tokens x ts us → MayInitial tokens y ts vs → Stops us → Stops vs → Same x us y vs
+    pub initial_once : {x y : Option Expr} {ts us vs : List Token} → MayInitial tokens x ts us → MayInitial tokens y ts vs → Stops us → Stops vs → Same x us y vs
     initial_once (an_initial p d r) (an_initial {x = x} {y = y} {rest = rest} q e r2) h i =
         let a = ended (omega arith) (meet_expr _ d (along (λ zs. IsExpr (length tokens) x zs rest) (same_rest p q) e)) h i in
         record { tree = ap Some (reads_once r (subst (λ w. Reads tokens w y) (sym (a.tree)) r2)); rest = a.rest }
@@ -396,7 +396,7 @@ module _ (tokens : List Token) where
         let b = vars_once g (along (λ zs. AreVars tokens ys zs r) (eaten_same (a.rest) c c2) g2) h i in
         record { tree = ap2 (λ w v. w ∷ v) (a.tree) (b.tree); rest = b.rest }
 
-    var_once : {x y : Var} {ts us vs : List Token} → IsVar tokens x ts us → IsVar tokens y ts vs → Stops us → Stops vs → Same x us y vs
+    pub var_once : {x y : Var} {ts us vs : List Token} → IsVar tokens x ts us → IsVar tokens y ts vs → Stops us → Stops vs → Same x us y vs
     var_once {ts = ts} (var_alone p f) (var_alone q g) h i = let a = as_same p q in record { tree = ap (λ n. var_of ts n None) (a.tree); rest = a.rest }
     var_once (var_alone p f) (var_initial q c e) h i = let a = as_same p q in absurd (symbol_missing (a.rest) f c)
     var_once (var_initial p c d) (var_alone q g) h i = let a = as_same p q in absurd (symbol_missing (sym (a.rest)) g c)
@@ -407,12 +407,12 @@ module _ (tokens : List Token) where
 
     -- ---- statements
 
-    test_once : {x y : Expr} {ts us vs : List Token} → IsTest tokens x ts us → IsTest tokens y ts vs → Same x us y vs
+    pub test_once : {x y : Expr} {ts us vs : List Token} → IsTest tokens x ts us → IsTest tokens y ts vs → Same x us y vs
     test_once (test p d q l) (test {x = y} {vs = vs} {rest = r} p2 e q2 l2) =
         let a = value_once d (along (λ zs. IsValue tokens y zs vs) (same_rest p p2) e) (at_paren q) (at_paren q2) in
         record { tree = a.tree; rest = may_line_once l (along (λ zs. MayLine zs r) (eaten_same (a.rest) q q2) l2) }
 
-    begin_once : {x y : Option Stmt} {ts us vs : List Token} → MayBegin tokens x ts us → MayBegin tokens y ts vs → Stops us → Stops vs → Same x us y vs
+    pub begin_once : {x y : Option Stmt} {ts us vs : List Token} → MayBegin tokens x ts us → MayBegin tokens y ts vs → Stops us → Stops vs → Same x us y vs
     begin_once (begin_decl d) (begin_decl e) h i = let a = decl_once d e h i in record { tree = ap (λ w. Some (stmt.Decl w)) (a.tree); rest = a.rest }
     begin_once (begin_value f d) (begin_value g e) h i = let a = value_once d e h i in record { tree = ap (λ w. Some (stmt.Expr w)) (a.tree); rest = a.rest }
     begin_once (begin_nothing p) (begin_nothing q) h i = record { tree = refl; rest = refl }
@@ -423,13 +423,13 @@ module _ (tokens : List Token) where
     begin_once (begin_value f d) (begin_nothing q) h i = let a = value_first tokens d in let b = ap class q in absurd (omega arith)
     begin_once (begin_nothing p) (begin_value g e) h i = let a = value_first tokens e in let b = ap class p in absurd (omega arith)
 
-    may_value_once : {x y : Option Expr} {ts us vs : List Token} → MayValue tokens x ts us → MayValue tokens y ts vs → Stops us → Stops vs → Same x us y vs
+    pub may_value_once : {x y : Option Expr} {ts us vs : List Token} → MayValue tokens x ts us → MayValue tokens y ts vs → Stops us → Stops vs → Same x us y vs
     may_value_once (some_value d) (some_value e) h i = let a = value_once d e h i in record { tree = ap Some (a.tree); rest = a.rest }
     may_value_once (no_value f) (no_value g) h i = record { tree = refl; rest = refl }
     may_value_once {ts = ts} (some_value d) (no_value g) h i = absurd (begins_nothing ts (value_first tokens d) g)
     may_value_once {ts = ts} (no_value f) (some_value e) h i = absurd (begins_nothing ts (value_first tokens e) f)
 
-    line_and_body_once : {x y : Stmt} {ts us vs : List Token} → IsLineAndBody tokens x ts us → IsLineAndBody tokens y ts vs → Stops us → Stops vs → Same x us y vs
+    pub line_and_body_once : {x y : Stmt} {ts us vs : List Token} → IsLineAndBody tokens x ts us → IsLineAndBody tokens y ts vs → Stops us → Stops vs → Same x us y vs
     line_and_body_once (line_and_body l b) (line_and_body {b = y} {rest = r} l2 c) h i = body_once b (along (λ zs. IsBody tokens y zs r) (may_line_once l l2) c) h i
 
     pub stmt_once : {x y : Stmt} {ts us vs : List Token} → IsStmt tokens x ts us → IsStmt tokens y ts vs → Stops us → Stops vs → Same x us y vs
@@ -543,7 +543,7 @@ module _ (tokens : List Token) where
     stmts_once (parted p d) (a_stmt e f) = absurd (no_stmt tokens e (separated_at p))
     stmts_once (a_stmt d g) (parted q e) = absurd (no_stmt tokens d (separated_at q))
 
-    after_once : {x y : List Stmt} {ts us vs : List Token} → AreAfter tokens x ts us → AreAfter tokens y ts vs → Same x us y vs
+    pub after_once : {x y : List Stmt} {ts us vs : List Token} → AreAfter tokens x ts us → AreAfter tokens y ts vs → Same x us y vs
     after_once (ended_here p) (ended_here q) = record { tree = refl; rest = refl }
     after_once (goes_on p d) (goes_on {b = b} {rest = r} q e) = stmts_once d (along (λ zs. AreStmts tokens b zs r) (separates_once p q) e)
     after_once (ended_here p) (goes_on q e) = absurd (ends_or_separates p q)
@@ -551,13 +551,13 @@ module _ (tokens : List Token) where
 
     -- ---- cases and catches
 
-    cases_once : {x y : List Case} {ts us vs : List Token} → AreCases tokens x ts us → AreCases tokens y ts vs → Same x us y vs
+    pub cases_once : {x y : List Case} {ts us vs : List Token} → AreCases tokens x ts us → AreCases tokens y ts vs → Same x us y vs
     cases_once (case_parted p d) (case_parted {cs = cs} {rest = r} q e) = cases_once d (along (λ zs. AreCases tokens cs zs r) (separates_once p q) e)
     cases_once (cases d) (cases e) = some_cases_once d e
     cases_once (case_parted p d) (cases e) = absurd (case_or_separates e p)
     cases_once (cases d) (case_parted p e) = absurd (case_or_separates d p)
 
-    some_cases_once : {x y : List Case} {ts us vs : List Token} → AreSomeCases tokens x ts us → AreSomeCases tokens y ts vs → Same x us y vs
+    pub some_cases_once : {x y : List Case} {ts us vs : List Token} → AreSomeCases tokens x ts us → AreSomeCases tokens y ts vs → Same x us y vs
     some_cases_once (no_case p) (no_case q) = record { tree = refl; rest = same_rest p q }
     some_cases_once {ts = ts} (a_case p d c b g) (a_case {x = x2} {b = b2} {cs = cs2} {vs = vs2} {xs = xs2} {rest = r2} p2 d2 c2 e f) =
         let a = value_once d (along (λ zs. IsValue tokens x2 zs vs2) (keyword_same p p2) d2) (at_colon c) (at_colon c2) in
@@ -575,7 +575,7 @@ module _ (tokens : List Token) where
     some_cases_once (a_case p d c b g) (a_default q c2 e f) = let a = keywords_agree p q in cc
     some_cases_once (a_default p c b g) (a_case q d c2 e f) = let a = keywords_agree p q in cc
 
-    catches_once : {x y : List Catch} {ts us vs : List Token} → AreCatches tokens x ts us → AreCatches tokens y ts vs → Same x us y vs
+    pub catches_once : {x y : List Catch} {ts us vs : List Token} → AreCatches tokens x ts us → AreCatches tokens y ts vs → Same x us y vs
     catches_once (no_catch f) (no_catch g) = record { tree = refl; rest = refl }
     catches_once (no_catch f) (a_catch p o t n c b g) = absurd (keyword_missing refl f p)
     catches_once (a_catch p o t n c b g) (no_catch f) = absurd (keyword_missing refl f p)
@@ -586,7 +586,7 @@ module _ (tokens : List Token) where
         let i = catches_once g (along (λ zs. AreCatches tokens cs2 zs r2) (h.rest) f) in
         record { tree = ap2 (λ w v. w ∷ v) (ap3 (λ x y z. catch_of ts x y z k) (a.tree) (a.rest) (d.tree) ∙ ap (catch_of ts types2 ws2 n2) (h.tree)) (i.tree); rest = i.rest }
 
-    finally_once : {x y : Option (List Stmt)} {ts us vs : List Token} → MayFinally tokens x ts us → MayFinally tokens y ts vs → Same x us y vs
+    pub finally_once : {x y : Option (List Stmt)} {ts us vs : List Token} → MayFinally tokens x ts us → MayFinally tokens y ts vs → Same x us y vs
     finally_once (a_finally p d) (a_finally {b = b} {rest = r} q e) =
         let a = block_once d (along (λ zs. IsBlock tokens b zs r) (keyword_same p q) e) in record { tree = ap Some (a.tree); rest = a.rest }
     finally_once (no_finally f) (no_finally g) = record { tree = refl; rest = refl }
