@@ -64,7 +64,7 @@ fn sorted(alloc: Global, element: Element) -> Result<ItemOrEntry, AllocError>
 }
 
 /// A key of one token.
-fn key_of(place: Place, kind: TokenKind) -> Option<Key>
+pub fn key_of(place: Place, kind: TokenKind) -> Option<Key>
     ensures { result ≡ spec.key_of place kind }
 {
     match kind {
@@ -79,7 +79,8 @@ fn key_of(place: Place, kind: TokenKind) -> Option<Key>
     }
 }
 
-fn is_colon(next: TokenKind) -> bool
+/// Whether it is a `:`.
+pub fn is_colon(next: TokenKind) -> bool
     ensures { MatchBool result (next ≡ kind.Symbol symbol.Colon) (next ≢ kind.Symbol symbol.Colon) }
 {
     matches!(next, TokenKind::Symbol(Symbol::Colon))

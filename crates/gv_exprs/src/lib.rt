@@ -10,7 +10,8 @@
 //! from fewer tokens than the reader itself, and `top` ties the knot.
 //!
 //! The promise: `read_expr` and `parse_expr` answer the longest expression that the tokens begin with, or
-//! refuse where none begins, or tell that memory ran out.
+//! refuse where none begins, or tell that memory ran out; so do the other functions of `top.rt` for the
+//! parts of commands.
 //!
 //! Where to begin: `reader.rt`, then `operators.rt`, `paths.rt`, `strings.rt` and `elements.rt`. A new
 //! production is a constructor in gv_grammar, what the longest phrase is in its proofs, and a function
@@ -27,5 +28,6 @@ mod strings;
 mod tests;
 mod top;
 
+pub use elements::{is_colon, key_of};
 pub use parse::{ParseError, parse_expr};
-pub use top::read_expr;
+pub use top::{read_cond, read_expr, read_path, read_suffix};

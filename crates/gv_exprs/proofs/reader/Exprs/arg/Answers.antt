@@ -4,7 +4,7 @@ use Rattle.gv_cursor.specs.Reading.{Before}
 use Rattle.gv_exprs.specs.declared.elements.Element.{Element}
 use Rattle.gv_exprs.specs.declared.elements.Element.TheVariants as element
 use Rattle.gv_exprs.specs.Elements.{ends_element, IsElement}
-use Rattle.gv_exprs.proofs.Results as results
+use Rattle.gv_cursor.proofs.Results as results
 use Rattle.gv_exprs.proofs.Lists.{element_arg, no_element_arg, no_computed_arg}
 use Rattle.gv_exprs.proofs.reader.Exprs.arg.Goals as goal
 

@@ -7,7 +7,7 @@ use Rattle.gv_grammar.specs.Exprs.{AreArguments, no_argument, arguments, AreArgs
 use Rattle.gv_grammar.proofs.Lengths.{less, of_arg, of_eats}
 use Rattle.gv_cursor.specs.Reading.{Before}
 use Rattle.gv_exprs.specs.Elements.{ends_element}
-use Rattle.gv_exprs.proofs.Results as results
+use Rattle.gv_cursor.proofs.Results as results
 use Rattle.gv_exprs.proofs.Lists.{long_arguments, no_arguments, no_arg, no_arg_comma, no_more_args}
 use Rattle.gv_exprs.proofs.reader.Exprs.arguments.Goals as goal
 

@@ -1,7 +1,7 @@
 use Rattle.gv_lex.specs.declared.token.Part.TheVariants as form
 use Rattle.gv_grammar.specs.Exprs.{IsExpr, IsPart}
 use Rattle.gv_grammar.specs.Tokens.{EatsEnd}
-use Rattle.gv_exprs.proofs.Results.{passed_on, unexpected_on}
+use Rattle.gv_cursor.proofs.Results.{passed_on, unexpected_on}
 use Rattle.gv_exprs.proofs.ResultsStrings.{braces, no_value, no_value_end}
 use Rattle.gv_exprs.proofs.reader.Exprs.braces_part.Goals as goal
 

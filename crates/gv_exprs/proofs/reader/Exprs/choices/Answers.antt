@@ -4,7 +4,7 @@ use Rattle.gv_grammar.specs.Tokens.{Eats}
 use Rattle.gv_grammar.specs.Exprs.{IsExpr, AreChoices}
 use Rattle.gv_grammar.proofs.Lengths.{less, of_eats, of_expr}
 use Rattle.gv_grammar.proofs.LongerOperators as longer
-use Rattle.gv_exprs.proofs.Results as results
+use Rattle.gv_cursor.proofs.Results as results
 use Rattle.gv_exprs.proofs.reader.Exprs.choices.Goals as goal
 
 pub returns-in_err-expect : goal.returns-in_err-expect

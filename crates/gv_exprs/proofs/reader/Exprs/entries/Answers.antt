@@ -8,7 +8,7 @@ use Rattle.gv_grammar.specs.Exprs.{IsEntry}
 use Rattle.gv_grammar.proofs.Lengths.{less, of_entry, of_eats}
 use Rattle.gv_cursor.specs.Reading.{Reads, Before}
 use Rattle.gv_exprs.specs.Elements.{ends_element, FollowsEntry}
-use Rattle.gv_exprs.proofs.Results as results
+use Rattle.gv_cursor.proofs.Results as results
 use Rattle.gv_exprs.proofs.Lists.{entries_end_here, entries_end_behind, reads_entry, no_entry_comma, no_entry_there}
 use Rattle.gv_exprs.proofs.reader.Exprs.entries.Goals as goal
 

@@ -3,7 +3,7 @@ use Rattle.gv_grammar.specs.Exprs.{IsEntry}
 use Rattle.gv_cursor.specs.Reading.{Before}
 use Rattle.gv_exprs.specs.declared.elements.ItemOrEntry.TheVariants as sort
 use Rattle.gv_exprs.specs.Elements.{ends_element, sorted, IsElement}
-use Rattle.gv_exprs.proofs.Results as results
+use Rattle.gv_cursor.proofs.Results as results
 use Rattle.gv_exprs.proofs.Lists.{element_entry, no_element_entry, item_no_entry}
 use Rattle.gv_exprs.proofs.reader.Exprs.entry.Goals as goal
 

@@ -1,5 +1,5 @@
 use Rattle.gv_grammar.specs.Exprs.{IsGString, AreParts}
-use Rattle.gv_exprs.proofs.Results.{passed_on}
+use Rattle.gv_cursor.proofs.Results.{passed_on}
 use Rattle.gv_exprs.proofs.ResultsStrings.{headless, partless, whole}
 use Rattle.gv_exprs.proofs.reader.Exprs.gstring.Goals as goal
 

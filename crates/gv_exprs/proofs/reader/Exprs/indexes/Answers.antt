@@ -3,7 +3,7 @@ use Rattle.gv_spelling.specs.declared.kinds.Symbol.TheVariants as symbol
 use Rattle.gv_grammar.specs.Tokens.{Eats}
 use Rattle.gv_grammar.specs.Exprs.{IsExpr, AreIndexes, last_index, more_indexes}
 use Rattle.gv_grammar.proofs.Lengths.{less, of_expr, of_eats}
-use Rattle.gv_exprs.proofs.Results as results
+use Rattle.gv_cursor.proofs.Results as results
 use Rattle.gv_exprs.proofs.Lists.{long_indexes, no_index_expr, no_index_comma, no_more_indexes}
 use Rattle.gv_exprs.proofs.reader.Exprs.indexes.Goals as goal
 

@@ -3,7 +3,7 @@ use Rattle.gv_grammar.specs.Exprs.{IsItem}
 use Rattle.gv_cursor.specs.Reading.{Before}
 use Rattle.gv_exprs.specs.declared.elements.ItemOrEntry.TheVariants as sort
 use Rattle.gv_exprs.specs.Elements.{ends_element, sorted, IsElement}
-use Rattle.gv_exprs.proofs.Results as results
+use Rattle.gv_cursor.proofs.Results as results
 use Rattle.gv_exprs.proofs.Lists.{element_item, no_element_item, entry_no_item}
 use Rattle.gv_exprs.proofs.reader.Exprs.item.Goals as goal
 

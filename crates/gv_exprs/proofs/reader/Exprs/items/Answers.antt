@@ -8,7 +8,7 @@ use Rattle.gv_grammar.specs.Exprs.{IsItem}
 use Rattle.gv_grammar.proofs.Lengths.{less, of_item, of_eats}
 use Rattle.gv_cursor.specs.Reading.{Reads, Before}
 use Rattle.gv_exprs.specs.Elements.{ends_element, FollowsItem}
-use Rattle.gv_exprs.proofs.Results as results
+use Rattle.gv_cursor.proofs.Results as results
 use Rattle.gv_exprs.proofs.Lists.{items_end_here, items_end_behind, reads_item, no_item_comma, no_item_there}
 use Rattle.gv_exprs.proofs.reader.Exprs.items.Goals as goal
 

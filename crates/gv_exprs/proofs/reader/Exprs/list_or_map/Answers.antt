@@ -8,7 +8,7 @@ use Rattle.gv_grammar.proofs.Lengths.{less}
 use Rattle.gv_cursor.specs.Reading.{Before}
 use Rattle.gv_exprs.specs.declared.elements.ItemOrEntry.TheVariants as sort
 use Rattle.gv_exprs.specs.Elements.{ends_element, sorted, IsElement, FollowsItem, FollowsEntry, IsListOrMap, a_list_of, an_empty_map}
-use Rattle.gv_exprs.proofs.Results as results
+use Rattle.gv_cursor.proofs.Results as results
 use Rattle.gv_exprs.proofs.Lists.{of_element, long_list, no_empty_map_end, no_first, list_here, map_here, no_list_here, no_map_here}
 use Rattle.gv_exprs.proofs.reader.Exprs.list_or_map.Goals as goal
 

@@ -2,7 +2,7 @@ use Rattle.std.proofs.Common.{◌≡◌, Some, None}
 use Rattle.gv_grammar.specs.Tokens.{kind_of, member_name_of, text_of}
 use Rattle.gv_grammar.specs.Exprs.{IsMemberName, member_gstring, IsGString}
 use Rattle.gv_grammar.proofs.LongerPaths as longer
-use Rattle.gv_exprs.proofs.Results.{passed_on}
+use Rattle.gv_cursor.proofs.Results.{passed_on}
 use Rattle.gv_exprs.proofs.reader.Exprs.member_name.Goals as goal
 
 pub returns-in-Some : goal.returns-in-Some

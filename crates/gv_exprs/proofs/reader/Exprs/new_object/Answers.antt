@@ -6,7 +6,7 @@ use Rattle.gv_grammar.specs.Exprs.{AreArguments, IsPrimary}
 use Rattle.gv_grammar.proofs.Lengths.{less, of_keyword, of_eats}
 use Rattle.gv_grammar.proofs.Longest.{keyword_here}
 use Rattle.gv_grammar.proofs.LongerPaths as longer
-use Rattle.gv_exprs.proofs.Results.{passed_on, unexpected_on}
+use Rattle.gv_cursor.proofs.Results.{passed_on, unexpected_on}
 use Rattle.gv_exprs.proofs.ResultsPaths.{refused_here}
 use Rattle.gv_exprs.proofs.reader.Exprs.new_object.Goals as goal
 

@@ -3,7 +3,7 @@ use Rattle.gv_spelling.specs.declared.kinds.Symbol.TheVariants as symbol
 use Rattle.gv_grammar.specs.Tokens.{Eats}
 use Rattle.gv_grammar.specs.Exprs.{IsExpr, IsPrimary, parens}
 use Rattle.gv_grammar.proofs.LongerPaths as longer
-use Rattle.gv_exprs.proofs.Results.{passed_on, unexpected_on}
+use Rattle.gv_cursor.proofs.Results.{passed_on, unexpected_on}
 use Rattle.gv_exprs.proofs.ResultsPaths.{passed, passed_less}
 use Rattle.gv_exprs.proofs.reader.Exprs.parens.Goals as goal
 

@@ -4,7 +4,7 @@ use Rattle.gv_tree.specs.declared.expr.Atom.TheVariants as atom
 use Rattle.gv_tree.specs.declared.expr.Expr.TheVariants as expr
 use Rattle.gv_grammar.specs.Exprs.{IsPart, GoesNames}
 use Rattle.gv_grammar.specs.Tokens.{EatsEnd, name_of}
-use Rattle.gv_exprs.proofs.Results.{passed_on, unexpected_on}
+use Rattle.gv_cursor.proofs.Results.{passed_on, unexpected_on}
 use Rattle.gv_exprs.proofs.ResultsStrings.{nameless, names_refused, path, path_unended}
 use Rattle.gv_exprs.proofs.reader.Exprs.path_part.Goals as goal
 

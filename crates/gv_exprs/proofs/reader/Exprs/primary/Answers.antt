@@ -3,7 +3,7 @@ use Rattle.gv_grammar.specs.Tokens.{kind_of, atom_of}
 use Rattle.gv_grammar.specs.Exprs.{IsPrimary, a_gstring, a_closure, IsGString}
 use Rattle.gv_grammar.proofs.Longest.{symbol_eaten}
 use Rattle.gv_grammar.proofs.LongerPaths as longer
-use Rattle.gv_exprs.proofs.Results.{passed_on}
+use Rattle.gv_cursor.proofs.Results.{passed_on}
 use Rattle.gv_exprs.proofs.ResultsPaths.{refused_here, unread_primary}
 use Rattle.gv_exprs.proofs.reader.Exprs.primary.Goals as goal
 

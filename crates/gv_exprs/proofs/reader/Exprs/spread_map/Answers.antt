@@ -2,8 +2,8 @@ use Rattle.gv_grammar.specs.Exprs.{IsUnary}
 use Rattle.gv_cursor.specs.Reading.{Before}
 use Rattle.gv_exprs.specs.Elements.{ends_element, IsElement}
 use Rattle.gv_exprs.proofs.Element as element
-use Rattle.gv_exprs.proofs.Results as results
-use Rattle.gv_exprs.proofs.ResultsElement.{refused_on}
+use Rattle.gv_cursor.proofs.Results as results
+use Rattle.gv_cursor.proofs.Results.{refused_on}
 use Rattle.gv_exprs.proofs.reader.Exprs.spread_map.Goals as goal
 
 pub returns-in_err-value : goal.returns-in_err-value

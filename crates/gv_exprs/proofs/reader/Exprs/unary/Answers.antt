@@ -3,7 +3,7 @@ use Rattle.gv_grammar.specs.Phrases.{Longest}
 use Rattle.gv_grammar.specs.Tokens.{kind_of, prefix_of}
 use Rattle.gv_grammar.specs.Exprs.{IsUnary}
 use Rattle.gv_grammar.proofs.LongerOperators as longer
-use Rattle.gv_exprs.proofs.Results as results
+use Rattle.gv_cursor.proofs.Results as results
 use Rattle.gv_exprs.proofs.ResultsOperators.{reads_unary}
 use Rattle.gv_exprs.proofs.reader.Exprs.unary.Goals as goal
 

@@ -1,5 +1,5 @@
--- What calls return, as what their callers return.
-use Rattle.std.proofs.Common.{◌≡◌, List, sym, subst, Result, Ok, Err}
+-- What calls return, as what their callers return: the forms of specs/Reading, for the crates above.
+use Rattle.std.proofs.Common.{◌≡◌, List, sym, subst, Result, Ok, Err, ◌∙◌}
 use Rattle.std.specs.Result.{IsErrAnd}
 use Rattle.gv_lex.specs.declared.token.Token.{Token}
 use Rattle.gv_grammar.specs.Phrases.{Phrase, Nothing}
@@ -30,3 +30,13 @@ pub unexpected_on : {B : Type 0} (T : Phrase B) (E : List Token → List Token �
     → (((behind : List Token) → E ts behind → ⊥) → Nothing T us) → Expects E (Err e) ts after → Reads T r us rest
 unexpected_on T E ts after us rest e (Ok x) h f d = absurd h
 unexpected_on T E ts after us rest e (Err x) h f d = unexpected T E ts after us x f (subst (λ y. Expects E (Err y) ts after) (sym h) d)
+
+pub unexpected_on_exactly : {B : Type 0} (T : Phrase B) (E : List Token → List Token → Type 0) (ts after us rest : List Token) (e : ReadError) (r : Result B ReadError) → IsErrAnd r (λ y. y ≡ e)
+    → (((behind : List Token) → E ts behind → ⊥) → Nothing T us) → Expects E (Err e) ts after → Exactly T r us rest
+unexpected_on_exactly T E ts after us rest e (Ok x) h f d = absurd h
+unexpected_on_exactly T E ts after us rest e (Err x) h f d = unexpected T E ts after us x f (subst (λ y. Expects E (Err y) ts after) (sym h) d)
+
+-- the exit by `?` where something else is refused
+pub refused_on : {B : Type 0} (T : Phrase B) (us rest : List Token) (e : ReadError) (r : Result B ReadError) → IsErrAnd r (λ y. y ≡ e) → e ≡ Refused → Nothing T us → Exactly T r us rest
+refused_on T us rest e (Ok x) h p f = absurd h
+refused_on T us rest e (Err x) h p f = subst (λ y. Fails T y us) (sym (h ∙ p)) f
