@@ -1,0 +1,5 @@
+pub mod Declarations
+pub mod Filled
+pub mod Lengths
+pub mod ParamPhrases
+pub mod PlainStmts

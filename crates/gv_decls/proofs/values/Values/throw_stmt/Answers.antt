@@ -1,0 +1,22 @@
+use Rattle.std.proofs.Common.{arith}
+use Rattle.gv_spelling.specs.declared.kinds.Keyword.TheVariants as keyword
+use Rattle.gv_grammar.specs.Tokens.{EatsKeyword}
+use Rattle.gv_grammar.specs.Stmts.{IsValue, IsStmt, a_throw}
+use Rattle.gv_grammar.proofs.Lengths.{less, of_keyword}
+use Rattle.gv_grammar.proofs.Longest.{keyword_here}
+use Rattle.gv_cursor.specs.Reading.{Stopped}
+use Rattle.gv_decls.proofs.PlainStmts.{no_throw}
+use Rattle.gv_cursor.proofs.Results.{passed_on_exactly, unexpected_on_exactly}
+use Rattle.gv_decls.proofs.values.Values.throw_stmt.Goals as goal
+
+pub returns-in_err-expect_keyword : goal.returns-in_err-expect_keyword
+returns-in_err-expect_keyword g c = unexpected_on_exactly (Stopped (IsStmt c.args.self.now.tokens.now)) (EatsKeyword keyword.Throw) _ _ _ _ _ c.from_residual.result (c.from_residual.ensures.1) (λ f. absurd (f _ (keyword_here _ (c.requires.next.1)))) (c.in_err-expect_keyword.ensures)
+
+pub value-requires-clause-within : goal.value-requires-clause-within
+value-requires-clause-within g c = let a = less (of_keyword (c.in_ok-expect_keyword.ensures)) in let b = c.requires.within in omega arith
+
+pub returns-in_err-value : goal.returns-in_err-value
+returns-in_err-value g c = passed_on_exactly (Stopped (IsValue c.args.self.now.tokens.now)) (Stopped (IsStmt c.args.self.now.tokens.now)) _ _ _ _ c.from_residual-in_err-value.result (c.from_residual-in_err-value.ensures.1) (λ f. no_throw c.args.self.now.tokens.now (c.in_ok-expect_keyword.ensures) f) (c.in_err-value.ensures)
+
+pub returns : goal.returns
+returns g c = record { is = rw (c.place-place.ensures, c.in_ok-new.ensures) (a_throw (c.in_ok-expect_keyword.ensures) (c.in_ok-value.ensures.is)); stops = c.in_ok-value.ensures.stops }
