@@ -11,5 +11,7 @@
 #![tactic(auto)]
 
 mod commands;
+#[cfg(test)]
+mod tests;
 
 pub use commands::read_full;
