@@ -1,5 +1,4 @@
 pub mod Lines
 pub mod Promises
 pub mod Running
-pub mod Scripts
-pub mod Writing
+pub mod Weights

@@ -1,72 +1,72 @@
--- Lines, one after the other.
-use Rattle.std.proofs.Common.{◌≡◌, ℕ, zero, suc, ◌<◌, Bool, true, false, List, [], ◌∷◌, ◌++◌, length, take, drop, Option, Some, None, option_map, option_copied, IfSome, All, Bor, refl, ap, sym, ◌∙◌, append_assoc, arith}
-use Rattle.std.proofs.lemmas.Grind.{flat_map-append}
-use Rattle.std.proofs.lemmas.List.Elements.{All-drop}
-use Rattle.gv_lex.specs.Tokens.{What, what_of}
-use Rattle.gv_lex.specs.declared.token.Token.{Token}
-use Rattle.gv_lex.specs.declared.token.TokenKind.{TokenKind}
-use Rattle.gv_lex.specs.declared.token.TokenKind.TheVariants as kind
+-- The code of some statements of a script, and what the others print behind it.
+use Rattle.std.proofs.Common.{◌≡◌, ℕ, suc, zero, slice_index_or, ◌<◌, List, [], ◌∷◌, ◌++◌, length, drop, Option, Some, None, Ok, Err, refl, sym, ap, subst, ◌∙◌, append_assoc, arith}
+use Rattle.std.proofs.lemmas.List.{append-nil}
+use Rattle.gv_base.specs.declared.refusal.Refusal.{Refusal}
+use Rattle.gv_base.specs.declared.value.Value.{Value}
+use Rattle.gv_tree.specs.declared.top.Top.{Top}
+use Rattle.gv_machine.specs.Small.{Runs, output_of}
 use Rattle.gv_machine.specs.declared.small.Small.{Small}
-use Rattle.groovy_cli.specs.Code.{script_code, sum_code}
-use Rattle.groovy_cli.specs.Sums.{Sum, ends_line, lines_of, line_sums, both, all_sums}
-use Rattle.groovy_cli.specs.Tokens.{whats_of, line_len, ends_line_kind, IsBehindLine}
+use Rattle.groovy_cli.specs.Code.{Prints, Compiled}
+use Rattle.groovy_cli.specs.Program.{Says, not_built, or_not_built}
+use Rattle.groovy_cli.specs.Sums.{line_of, line_text, with_line, printed}
+use Rattle.groovy_cli.proofs.Running.{prints_nothing, prints_on}
 
--- what follows the first of a list's later elements
-pub behind_first : {X : Type 0} (xs : List X) (n : ℕ) (x : X) (ys : List X) → drop n xs ≡ x ∷ ys → (n < length xs) × (ys ≡ drop (suc n) xs)
-behind_first [] zero x ys e = absurd (cc)
-behind_first [] (suc n) x ys e = absurd (cc)
-behind_first (y ∷ xs) zero x ys e = (omega arith, cc)
-behind_first (y ∷ xs) (suc n) x ys e = let h = behind_first xs n x ys e in (omega (arith, h.0), h.1)
+abbrev pub with_text : List ℕ → Option (List ℕ) → Option (List ℕ)
+with_text text None = None
+with_text text (Some more) = Some (text ++ more)
 
-ends_line-what_of : (names : List (List ℕ)) (k : TokenKind) → ends_line (what_of names k) ≡ ends_line_kind k
-ends_line-what_of names (kind.Word w n) = refl
-ends_line-what_of names (kind.Int n) = refl
-ends_line-what_of names (kind.Long n) = refl
-ends_line-what_of names (kind.Symbol s) = refl
-ends_line-what_of names (kind.Text p n) = refl
-ends_line-what_of names kind.LineEnd = refl
-ends_line-what_of names kind.End = refl
+-- code for so many statements
+pub record Done (println : Option ℕ) (tops : List Top) (count : ℕ) (code : List Small) : Type 0 where
+  pub text : List ℕ
+  pub prints : Prints text code
+  pub rest : printed println tops ≡ with_text text (printed println (drop count tops))
 
--- the lines behind the first one
-abbrev pub lines_behind : List (List ℕ) → Option (List Token) → List (List What)
-lines_behind names None = []
-lines_behind names (Some rest) = lines_of (whats_of names rest)
+no_text : (o : Option (List ℕ)) → o ≡ with_text [] o
+no_text None = refl
+no_text (Some text) = refl
 
-first_lines : (names : List (List ℕ)) (tokens : List Token) (rest : Option (List Token)) → IsBehindLine rest tokens
-    → lines_of (whats_of names tokens) ≡ whats_of names (take (line_len tokens) tokens) ∷ lines_behind names rest
-first_lines names [] None h = refl
-first_lines names [] (Some rest) h = absurd (omega (arith, h.0))
-first_lines names (t ∷ ts) rest h = by (first_lines names ts) (ends_line_kind t.kind) refl rest h
-  where
-    by : ((rest : Option (List Token)) → IsBehindLine rest ts → lines_of (whats_of names ts) ≡ whats_of names (take (line_len ts) ts) ∷ lines_behind names rest)
-        → (b : Bool) → ends_line_kind t.kind ≡ b → (rest : Option (List Token)) → IsBehindLine rest (t ∷ ts)
-        → lines_of (whats_of names (t ∷ ts)) ≡ whats_of names (take (line_len (t ∷ ts)) (t ∷ ts)) ∷ lines_behind names rest
-    by more true e None h = absurd (let short = simp e at h in omega (arith, short))
-    by more true e (Some rest) h = let behind = simp e at h in simp (ends_line-what_of names t.kind, e) (ap (λ (r : List Token). [] ∷ lines_of (whats_of names r)) (sym behind.1))
-    by more false e None h = let short = simp e at h in let same = more None (omega (arith, short)) in simp (ends_line-what_of names t.kind, e) (rw same refl)
-    by more false e (Some rest) h = let behind = simp e at h in let same = more (Some rest) (omega (arith, behind.0), behind.1) in simp (ends_line-what_of names t.kind, e) (rw same refl)
+pub done_nothing : (println : Option ℕ) (tops : List Top) → Done println tops 0 []
+done_nothing println tops = record { text = []; prints = prints_nothing; rest = no_text (printed println tops) }
 
--- the sums of the first line and of those behind it
-pub next_sums : (names : List (List ℕ)) (tokens line : List Token) (rest : Option (List Token)) → line ≡ take (line_len tokens) tokens → IsBehindLine rest tokens
-    → all_sums (lines_of (whats_of names tokens)) ≡ both (line_sums (whats_of names line)) (all_sums (lines_behind names rest))
-next_sums names tokens line rest e h = rw (first_lines names tokens rest h, e) refl
+text_behind : (a : List ℕ) (v : Value) (o : Option (List ℕ)) → with_text a (with_line (Some v) o) ≡ with_text (a ++ line_text v) o
+text_behind a v None = refl
+text_behind a v (Some text) = rw (append_assoc a (line_text v) text) refl
 
--- a line that was written, and the lines behind it
-pub written_line : (old new : List Small) (line : Option (List Sum)) (behind : Option (List Sum)) → Some new ≡ option_map (λ piece. old ++ piece) (option_map script_code line)
-    → option_map (λ piece. new ++ piece) (option_map script_code behind) ≡ option_map (λ piece. old ++ piece) (option_map script_code (both line behind))
-written_line old new None behind e = absurd (cc)
-written_line old new (Some sums) None e = refl
-written_line old new (Some sums) (Some more) e =
-    let h : new ≡ old ++ script_code sums = cc in
-    ap Some (rw h (append_assoc old (script_code sums) (script_code more) ∙ ap (λ (c : List Small). old ++ c) (sym (flat_map-append sum_code sums more))))
+dropped : (tops : List Top) (n : ℕ) {t : Top} {ts : List Top} → drop n tops ≡ t ∷ ts → drop (suc n) tops ≡ ts
+dropped [] zero p = cc
+dropped [] (suc n) p = cc
+dropped (u ∷ us) zero p = cc
+dropped (u ∷ us) (suc n) p = dropped us n p
 
--- a line that is no sum
-pub no_line : (old : List Small) (line : Option (List Sum)) (behind : Option (List Sum)) → None ≡ option_map (λ piece. old ++ piece) (option_map script_code line)
-    → option_map script_code (both line behind) ≡ None
-no_line old None behind e = refl
-no_line old (Some sums) behind e = absurd (cc)
+module _ {println : Option ℕ} {tops : List Top} {n : ℕ} {code : List Small} (d : Done println tops n code) {t : Top} {ts : List Top} (next : drop n tops ≡ t ∷ ts) where
+  pub done_line : {v : Value} {piece new : List Small} → line_of println t ≡ Some v → new ≡ code ++ piece → Prints (line_text v) piece → Done println tops (suc n) new
+  done_line {v = v} {piece = piece} p e q = record {
+    text = d.text ++ line_text v;
+    prints = subst (Prints (d.text ++ line_text v)) (sym e) (prints_on d.prints q);
+    rest = d.rest ∙ rw (next, p, dropped tops n next) (text_behind d.text v (printed println ts));
+  }
 
--- what holds of all tokens holds of those behind the first line
-pub all_behind : (P : Token → Type 0) (tokens : List Token) (rest : Option (Bor (List Token))) → IsBehindLine (option_copied rest) tokens → All P tokens → IfSome rest (λ rest. All P rest.now)
-all_behind P tokens None h all = tt
-all_behind P tokens (Some rest) h all = rw h.1 (All-drop P (suc (line_len tokens)) tokens all)
+  pub never_printed : line_of println t ≡ None → printed println tops ≡ None
+  never_printed p = d.rest ∙ rw (next, p) refl
+
+pub all_done : {println : Option ℕ} {tops : List Top} {n : ℕ} {code : List Small} → Done println tops n code → drop n tops ≡ [] → Compiled (Some code) (printed println tops)
+all_done {code = code} d e = (d.text, d.rest ∙ rw e (ap Some (append-nil d.text)), d.prints)
+
+-- the element at a place, and those behind it
+pub element_at : {A : Type 0} (xs : List A) (n : ℕ) (x y : A) → n < length xs → x ≡ slice_index_or xs n y → drop n xs ≡ x ∷ drop (suc n) xs
+element_at [] n x y l p = absurd (omega arith)
+element_at (z ∷ zs) zero x y l p = ap (λ w. w ∷ zs) (sym p)
+element_at (z ∷ zs) (suc n) x y l p = element_at zs n x y (omega arith) p
+
+-- code that prints a text, from its beginning to its end
+pub runs_alone : {text : List ℕ} {code : List Small} → Prints text code → Runs 0 code
+runs_alone {code = code} p = subst (Runs 0) (append-nil code) (p.runs [] tt)
+
+pub prints_alone : {text : List ℕ} {code : List Small} → Prints text code → output_of [] code ≡ text
+prints_alone {text = text} {code = code} p = sym (ap (output_of []) (append-nil code)) ∙ (p.output [] ∙ append-nil text)
+
+pub says_printed : {bytes : List ℕ} (printed : Option (List ℕ)) {text out : List ℕ} → Says bytes (or_not_built printed) → printed ≡ Some text → out ≡ text → Says bytes (Ok out)
+says_printed {bytes = bytes} printed s p q = subst (λ r. Says bytes r) (ap or_not_built p ∙ ap Ok (sym q)) s
+
+pub says_not_built : {bytes : List ℕ} (printed : Option (List ℕ)) {r : Refusal} → Says bytes (or_not_built printed) → printed ≡ None → r ≡ not_built → Says bytes (Err r)
+says_not_built {bytes = bytes} printed s p q = subst (λ r. Says bytes r) (ap or_not_built p ∙ ap Err (sym q)) s

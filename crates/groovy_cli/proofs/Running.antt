@@ -1,148 +1,155 @@
--- The code that is written for sums prints their values.
-use Rattle.std.proofs.Common.{◌≡◌, ℕ, suc, Bool, true, false, if◌then◌else◌, List, [], ◌∷◌, ◌++◌, fold, flat_map, Option, Some, None, option_map, IfSome, refl, ap, ◌∙◌, append_assoc}
-use Rattle.std.specs.Prelude.{option_and_then}
-use Rattle.std.specs.List.{AllByRecursion}
+-- The code that is written for sums does what they mean.
+use Rattle.std.proofs.Common.{◌≡◌, Bool, true, false, ℕ, suc, ◌+◌, List, [], ◌∷◌, ◌++◌, Option, Some, None, refl, sym, ap, subst, ◌∙◌, append_assoc}
 use Rattle.gv_base.specs.Arith.{applied, IsNumber}
+use Rattle.gv_base.specs.declared.refusal.Place.{Place}
 use Rattle.gv_base.specs.declared.value.Value.{Value}
+use Rattle.gv_base.specs.declared.outcome.ArithOp.{ArithOp}
 use Rattle.gv_base.specs.declared.outcome.ArithOp.TheVariants as op
-use Rattle.gv_lex.specs.Tokens.{What, int, long}
-use Rattle.gv_machine.specs.Small.{Runs, output_of}
+use Rattle.gv_tree.specs.declared.expr.Atom.{Atom}
+use Rattle.gv_tree.specs.declared.expr.Atom.TheVariants as atom
+use Rattle.gv_tree.specs.declared.expr.Arg.TheOpen.{Expr-F}
+use Rattle.gv_tree.specs.declared.expr.Expr.{Expr, out-Expr, roll-Expr, roll-out-Expr, fold-roll-Expr}
+use Rattle.gv_tree.specs.declared.expr.Expr.TheVariants as expr
+use Rattle.gv_tree.specs.declared.ops.BinaryOp.{BinaryOp}
+use Rattle.gv_tree.specs.declared.ops.BinaryOp.TheVariants as binary
+use Rattle.gv_machine.specs.Small.{Runs, output_of, text_of}
 use Rattle.gv_machine.specs.declared.small.Small.{Small}
 use Rattle.gv_machine.specs.declared.small.Small.TheVariants as small
-use Rattle.groovy_cli.specs.declared.operator.Operator.{Operator}
-use Rattle.groovy_cli.specs.declared.operator.Operator.TheVariants.{Plus, Minus, Star}
-use Rattle.groovy_cli.specs.Code.{instruction_of, pairs_code, script_code}
-use Rattle.groovy_cli.specs.Sums.{Pair, Sum, number_of, operator_of, pair_of, pairs_of, sum_of, line_sums, both, all_sums, op_of, is_star, product, terms, add_term, line_text}
+use Rattle.groovy_cli.specs.Code.{instruction_of, Computes, Prints, Written}
+use Rattle.groovy_cli.specs.Sums.{Layer, number_of, op_of, combined, value_of, line_text}
+use Rattle.groovy_cli.proofs.Weights.{weight}
 
--- ---- the numbers of sums
+-- ---- trees
 
-abbrev pub AreNumbers : List Pair → Type 0
-AreNumbers pairs = AllByRecursion (λ pair. IsNumber pair.1) pairs
+pub value_of_atom : (p : Place) (a : Atom) → value_of (expr.Atom p a) ≡ number_of a
+unfolding value_of
+value_of_atom p a = rw (← expr.rolls-Atom, fold-roll-Expr) refl
 
-abbrev pub HasNumbers : Sum → Type 0
-HasNumbers sum = IsNumber sum.first × AreNumbers sum.pairs
+pub value_of_paren : (p : Place) (x : Expr) → value_of (expr.Paren p x) ≡ value_of x
+unfolding value_of
+value_of_paren p x = rw (← expr.rolls-Paren, fold-roll-Expr) refl
 
-abbrev pub HaveNumbers : List Sum → Type 0
-HaveNumbers sums = AllByRecursion HasNumbers sums
+pub value_of_binary : (p : Place) (o : BinaryOp) (x y : Expr) → value_of (expr.Binary p o x y) ≡ combined (op_of o) (value_of x) (value_of y)
+unfolding value_of
+value_of_binary p o x y = rw (← expr.rolls-Binary, fold-roll-Expr) refl
 
-number_of-IsNumber : (token : What) → IfSome (number_of token) IsNumber
-number_of-IsNumber (int n) = tt
-number_of-IsNumber (long n) = tt
-number_of-IsNumber token = tt
-
-pair_of-IsNumber : (token number : What) → IfSome (pair_of token number) (λ pair. IsNumber pair.1)
-pair_of-IsNumber token number = by (operator_of token) (number_of number) (number_of-IsNumber number)
+pub no_value : (x : Expr) → ((p : Place) (a : Atom) → x ≡ expr.Atom p a → ⊥) → ((p : Place) (y : Expr) → x ≡ expr.Paren p y → ⊥) → ((p : Place) (o : BinaryOp) (y z : Expr) → x ≡ expr.Binary p o y z → ⊥) → value_of x ≡ None
+unfolding value_of
+no_value x f g h = go (out-Expr x) (sym (roll-out-Expr x))
   where
-    by : (s : Option Operator) (o : Option Value) → IfSome o IsNumber → IfSome (option_and_then (λ s. option_map (λ v. (s, v)) o) s) (λ (pair : Pair). IsNumber pair.1)
-    by None o h = tt
-    by (Some s) None h = tt
-    by (Some s) (Some v) h = h
+    go : (l : Layer) → x ≡ roll-Expr l → value_of x ≡ None
+    go (Expr-F.Atom p a) e = absurd (f p a (e ∙ expr.rolls-Atom p a))
+    go (Expr-F.Paren p y) e = absurd (g p y (e ∙ expr.rolls-Paren p y))
+    go (Expr-F.Binary p o y z) e = absurd (h p o y z (e ∙ expr.rolls-Binary p o y z))
+    go l e = rw (e, fold-roll-Expr) refl
 
-pairs_of-AreNumbers : (tokens : List What) → IfSome (pairs_of tokens) AreNumbers
-pairs_of-AreNumbers [] = tt
-pairs_of-AreNumbers (token ∷ []) = tt
-pairs_of-AreNumbers (token ∷ number ∷ tokens) = by (pair_of token number) (pair_of-IsNumber token number) (pairs_of tokens) (pairs_of-AreNumbers tokens)
+pub weight_of_paren : (p : Place) (x : Expr) → weight (expr.Paren p x) ≡ suc (weight x)
+unfolding weight
+weight_of_paren p x = rw (← expr.rolls-Paren, fold-roll-Expr) refl
+
+pub weight_of_binary : (p : Place) (o : BinaryOp) (x y : Expr) → weight (expr.Binary p o x y) ≡ suc (weight x + weight y)
+unfolding weight
+weight_of_binary p o x y = rw (← expr.rolls-Binary, fold-roll-Expr) refl
+
+-- ---- numbers and operators
+
+number_is : (a : Atom) {v : Value} → number_of a ≡ Some v → IsNumber v
+number_is (atom.Int n) p = subst IsNumber (some_same p) tt
   where
-    by : (o : Option Pair) → IfSome o (λ pair. IsNumber pair.1) → (r : Option (List Pair)) → IfSome r AreNumbers → IfSome (option_and_then (λ pair. option_map (λ pairs. pair ∷ pairs) r) o) AreNumbers
-    by None h r hs = tt
-    by (Some pair) h None hs = tt
-    by (Some pair) h (Some pairs) hs = (h, hs)
-
-sum_of-HasNumbers : (line : List What) → IfSome (sum_of line) HasNumbers
-sum_of-HasNumbers [] = tt
-sum_of-HasNumbers (token ∷ []) = tt
-sum_of-HasNumbers (token ∷ number ∷ tokens) = by _ (number_of number) (number_of-IsNumber number) (pairs_of tokens) (pairs_of-AreNumbers tokens)
+    some_same : {v w : Value} → Some v ≡ Some w → v ≡ w
+    some_same e = cc
+number_is (atom.Long n) p = subst IsNumber (some_same p) tt
   where
-    by : (b : Bool) (o : Option Value) → IfSome o IsNumber → (r : Option (List Pair)) → IfSome r AreNumbers
-        → IfSome (if b then option_and_then (λ v. option_map (λ pairs. record { first = v; pairs = pairs }) r) o else None) HasNumbers
-    by false o h r hs = tt
-    by true None h r hs = tt
-    by true (Some v) h None hs = tt
-    by true (Some v) h (Some pairs) hs = (h, hs)
+    some_same : {v w : Value} → Some v ≡ Some w → v ≡ w
+    some_same e = cc
+number_is other p = cc
 
-line_sums-HaveNumbers : (line : List What) → IfSome (line_sums line) HaveNumbers
-line_sums-HaveNumbers [] = tt
-line_sums-HaveNumbers (lexeme ∷ lexemes) = by (sum_of (lexeme ∷ lexemes)) (sum_of-HasNumbers (lexeme ∷ lexemes))
+-- ---- pieces of code
+
+pub pushes : (a : Atom) {v : Value} → number_of a ≡ Some v → Computes v (small.Push v ∷ [])
+pushes a p = record { runs = λ depth more h. (number_is a p, h); output = λ stack more. refl }
+
+pub operates : (o : BinaryOp) {i : Small} {v w : Value} {a b : List Small} → instruction_of o ≡ Some i → Computes v a → Computes w b
+    → (x : Value) × (combined (op_of o) (Some v) (Some w) ≡ Some x) × Computes x ((a ++ b) ++ i ∷ [])
+operates o {i = i} {v = v} {w = w} {a = a} {b = b} p c d = go o p
   where
-    by : (o : Option Sum) → IfSome o HasNumbers → IfSome (option_map (λ sum. sum ∷ []) o) HaveNumbers
-    by None h = tt
-    by (Some sum) h = (h, tt)
+    behind : (x : Value) (j : Small) → j ≡ i → ((depth : ℕ) (more : List Small) → Runs (suc depth) more → Runs (suc (suc depth)) (j ∷ more))
+        → ((stack : List Value) (more : List Small) → output_of (w ∷ v ∷ stack) (j ∷ more) ≡ output_of (x ∷ stack) more) → Computes x ((a ++ b) ++ i ∷ [])
+    behind x j e f g = subst (λ k. Computes x ((a ++ b) ++ k ∷ [])) e (record {
+      runs = λ depth more h. rw (append_assoc (a ++ b) (j ∷ []) more, append_assoc a b (j ∷ more)) (c.runs depth _ (d.runs (suc depth) _ (f depth more h)));
+      output = λ stack more. rw (append_assoc (a ++ b) (j ∷ []) more, append_assoc a b (j ∷ more)) (c.output stack _ ∙ (d.output (v ∷ stack) _ ∙ g stack more));
+    })
 
-append-HaveNumbers : (first behind : List Sum) → HaveNumbers first → HaveNumbers behind → HaveNumbers (first ++ behind)
-append-HaveNumbers [] behind h k = k
-append-HaveNumbers (sum ∷ first) behind h k = (h.0, append-HaveNumbers first behind h.1 k)
+    go : (o : BinaryOp) → instruction_of o ≡ Some i → (x : Value) × (combined (op_of o) (Some v) (Some w) ≡ Some x) × Computes x ((a ++ b) ++ i ∷ [])
+    go binary.Plus p =
+        let f : (depth : ℕ) (more : List Small) → Runs (suc depth) more → Runs (suc (suc depth)) (small.Plus ∷ more) = λ depth more h. h in
+        let g : (stack : List Value) (more : List Small) → output_of (w ∷ v ∷ stack) (small.Plus ∷ more) ≡ output_of (applied op.Plus v w ∷ stack) more = λ stack more. refl in
+        let e : small.Plus ≡ i = cc in
+        (applied op.Plus v w, refl, behind (applied op.Plus v w) small.Plus e f g)
+    go binary.Minus p =
+        let f : (depth : ℕ) (more : List Small) → Runs (suc depth) more → Runs (suc (suc depth)) (small.Minus ∷ more) = λ depth more h. h in
+        let g : (stack : List Value) (more : List Small) → output_of (w ∷ v ∷ stack) (small.Minus ∷ more) ≡ output_of (applied op.Minus v w ∷ stack) more = λ stack more. refl in
+        let e : small.Minus ≡ i = cc in
+        (applied op.Minus v w, refl, behind (applied op.Minus v w) small.Minus e f g)
+    go binary.Multiply p =
+        let f : (depth : ℕ) (more : List Small) → Runs (suc depth) more → Runs (suc (suc depth)) (small.Multiply ∷ more) = λ depth more h. h in
+        let g : (stack : List Value) (more : List Small) → output_of (w ∷ v ∷ stack) (small.Multiply ∷ more) ≡ output_of (applied op.Multiply v w ∷ stack) more = λ stack more. refl in
+        let e : small.Multiply ≡ i = cc in
+        (applied op.Multiply v w, refl, behind (applied op.Multiply v w) small.Multiply e f g)
+    go o p = absurd cc
 
-pub all_sums-HaveNumbers : (lines : List (List What)) → IfSome (all_sums lines) HaveNumbers
-all_sums-HaveNumbers [] = tt
-all_sums-HaveNumbers (line ∷ lines) = by (line_sums line) (line_sums-HaveNumbers line) (all_sums lines) (all_sums-HaveNumbers lines)
+-- an operation that has no instruction, or an operand without a value
+pub no_operation : (o : BinaryOp) (m n : Option Value) → instruction_of o ≡ None → combined (op_of o) m n ≡ None
+no_operation binary.Plus m n p = cc
+no_operation binary.Minus m n p = cc
+no_operation binary.Multiply m n p = cc
+no_operation o m n p = refl
+
+pub no_left : (o : BinaryOp) (m n : Option Value) → m ≡ None → combined (op_of o) m n ≡ None
+no_left o m n p = rw p (by (op_of o))
   where
-    by : (a : Option (List Sum)) → IfSome a HaveNumbers → (b : Option (List Sum)) → IfSome b HaveNumbers → IfSome (both a b) HaveNumbers
-    by None h b k = tt
-    by (Some first) h None k = tt
-    by (Some first) h (Some behind) k = append-HaveNumbers first behind h k
+    by : (k : Option ArithOp) → combined k None n ≡ None
+    by None = refl
+    by (Some k) = refl
 
--- ---- each instruction finds its operands
-
-runs-instruction : (s : Operator) (depth : ℕ) (code : List Small) → Runs (suc depth) code → Runs (suc (suc depth)) (instruction_of s ∷ code)
-runs-instruction Plus depth code h = h
-runs-instruction Minus depth code h = h
-runs-instruction Star depth code h = h
-
--- the current product, and below it the sum that waits for it
-runs-waiting : (pairs : List Pair) (s : Operator) (depth : ℕ) (code : List Small) → AreNumbers pairs → Runs (suc depth) code → Runs (suc (suc depth)) (pairs_code (Some (instruction_of s)) pairs ++ code)
-runs-waiting [] s depth code numbers h = runs-instruction s depth code h
-runs-waiting (pair ∷ pairs) s depth code numbers h = by (runs-waiting pairs s depth code numbers.1 h) (runs-waiting pairs pair.0 depth code numbers.1 h) (is_star pair.0) refl
+pub no_right : (o : BinaryOp) (m n : Option Value) → n ≡ None → combined (op_of o) m n ≡ None
+no_right o m n p = rw p (by (op_of o) m)
   where
-    by : Runs (suc (suc depth)) (pairs_code (Some (instruction_of s)) pairs ++ code) → Runs (suc (suc depth)) (pairs_code (Some (instruction_of pair.0)) pairs ++ code)
-        → (b : Bool) → is_star pair.0 ≡ b → Runs (suc (suc depth)) (pairs_code (Some (instruction_of s)) (pair ∷ pairs) ++ code)
-    by same next true e = simp e (numbers.0, same)
-    by same next false e = simp e (runs-instruction s depth _ (numbers.0, next))
+    by : (k : Option ArithOp) (m : Option Value) → combined k m None ≡ None
+    by None m = refl
+    by (Some k) None = refl
+    by (Some k) (Some v) = refl
 
--- the current product, where no sum waits
-runs-first : (pairs : List Pair) (depth : ℕ) (code : List Small) → AreNumbers pairs → Runs (suc depth) code → Runs (suc depth) (pairs_code None pairs ++ code)
-runs-first [] depth code numbers h = h
-runs-first (pair ∷ pairs) depth code numbers h = by (runs-first pairs depth code numbers.1 h) (runs-waiting pairs pair.0 depth code numbers.1 h) (is_star pair.0) refl
+-- ---- what was written
+
+pub not_written : {A : Type 0} (Does : A → List Small → Type 0) (b : Bool) {told : Option A} (old new : List Small) → b ≡ false → Written Does b told old new → told ≡ None
+not_written Does true old new e h = cc
+not_written Does false old new e h = h
+
+pub is_written : {A : Type 0} (Does : A → List Small → Type 0) (b : Bool) {told : Option A} (old new : List Small) → b ≡ true → Written Does b told old new
+    → (a : A) × (told ≡ Some a) × (piece : List Small) × (new ≡ old ++ piece) × Does a piece
+is_written Does true old new e h = h
+is_written Does false old new e h = cc
+
+pub put_behind : (old a b m n : List Small) (i : Small) → m ≡ old ++ a → n ≡ m ++ b → n ++ i ∷ [] ≡ old ++ ((a ++ b) ++ i ∷ [])
+put_behind old a b m n i p q = rw (q, p, append_assoc old a b, append_assoc old (a ++ b) (i ∷ [])) refl
+
+-- ---- printing
+
+pub prints : {v : Value} {piece : List Small} → Computes v piece → Prints (line_text v) (piece ++ small.Print ∷ [])
+prints {v = v} {piece = piece} c = record {
+  runs = λ more h. rw (append_assoc piece (small.Print ∷ []) more) (c.runs 0 _ h);
+  output = λ more. rw (append_assoc piece (small.Print ∷ []) more) (c.output [] (small.Print ∷ more) ∙ last more);
+}
   where
-    by : Runs (suc depth) (pairs_code None pairs ++ code) → Runs (suc (suc depth)) (pairs_code (Some (instruction_of pair.0)) pairs ++ code)
-        → (b : Bool) → is_star pair.0 ≡ b → Runs (suc depth) (pairs_code None (pair ∷ pairs) ++ code)
-    by same next true e = simp e (numbers.0, same)
-    by same next false e = simp e (numbers.0, next)
+    last : (more : List Small) → output_of (v ∷ []) (small.Print ∷ more) ≡ line_text v ++ output_of [] more
+    last more = rw (append_assoc (text_of v) (10 ∷ []) (output_of [] more)) refl
 
-pub script_code-Runs : (sums : List Sum) → HaveNumbers sums → Runs 0 (script_code sums)
-script_code-Runs [] h = tt
-script_code-Runs (sum ∷ sums) h = (h.0.0, rw (append_assoc (pairs_code None sum.pairs) (small.Print ∷ []) (script_code sums)) (runs-first sum.pairs 0 (small.Print ∷ script_code sums) h.0.1 (script_code-Runs sums h.1)))
+pub prints_nothing : Prints [] []
+prints_nothing = record { runs = λ more h. h; output = λ more. refl }
 
--- ---- what it prints
-
-output-instruction : (s : Operator) (a b : Value) (stack : List Value) (code : List Small) → output_of (b ∷ a ∷ stack) (instruction_of s ∷ code) ≡ output_of (applied (op_of s) a b ∷ stack) code
-output-instruction Plus a b stack code = refl
-output-instruction Minus a b stack code = refl
-output-instruction Star a b stack code = refl
-
-output-waiting : (pairs : List Pair) (s : Operator) (a p : Value) (stack : List Value) (code : List Small)
-    → output_of (p ∷ a ∷ stack) (pairs_code (Some (instruction_of s)) pairs ++ code) ≡ output_of (fold add_term (applied (op_of s) a (product p pairs)) (terms pairs) ∷ stack) code
-output-waiting [] s a p stack code = output-instruction s a p stack code
-output-waiting (pair ∷ pairs) s a p stack code = by (output-waiting pairs s a (applied op.Multiply p pair.1) stack code) (output-waiting pairs pair.0 (applied (op_of s) a p) pair.1 stack code) (is_star pair.0) refl
-  where
-    by : output_of (applied op.Multiply p pair.1 ∷ a ∷ stack) (pairs_code (Some (instruction_of s)) pairs ++ code) ≡ output_of (fold add_term (applied (op_of s) a (product (applied op.Multiply p pair.1) pairs)) (terms pairs) ∷ stack) code
-        → output_of (pair.1 ∷ applied (op_of s) a p ∷ stack) (pairs_code (Some (instruction_of pair.0)) pairs ++ code) ≡ output_of (fold add_term (applied (op_of pair.0) (applied (op_of s) a p) (product pair.1 pairs)) (terms pairs) ∷ stack) code
-        → (b : Bool) → is_star pair.0 ≡ b
-        → output_of (p ∷ a ∷ stack) (pairs_code (Some (instruction_of s)) (pair ∷ pairs) ++ code) ≡ output_of (fold add_term (applied (op_of s) a (product p (pair ∷ pairs))) (terms (pair ∷ pairs)) ∷ stack) code
-    by same next true e = simp e same
-    by same next false e = simp e (output-instruction s a p stack _ ∙ next)
-
-output-first : (pairs : List Pair) (p : Value) (stack : List Value) (code : List Small)
-    → output_of (p ∷ stack) (pairs_code None pairs ++ code) ≡ output_of (fold add_term (product p pairs) (terms pairs) ∷ stack) code
-output-first [] p stack code = refl
-output-first (pair ∷ pairs) p stack code = by (output-first pairs (applied op.Multiply p pair.1) stack code) (output-waiting pairs pair.0 p pair.1 stack code) (is_star pair.0) refl
-  where
-    by : output_of (applied op.Multiply p pair.1 ∷ stack) (pairs_code None pairs ++ code) ≡ output_of (fold add_term (product (applied op.Multiply p pair.1) pairs) (terms pairs) ∷ stack) code
-        → output_of (pair.1 ∷ p ∷ stack) (pairs_code (Some (instruction_of pair.0)) pairs ++ code) ≡ output_of (fold add_term (applied (op_of pair.0) p (product pair.1 pairs)) (terms pairs) ∷ stack) code
-        → (b : Bool) → is_star pair.0 ≡ b
-        → output_of (p ∷ stack) (pairs_code None (pair ∷ pairs) ++ code) ≡ output_of (fold add_term (product p (pair ∷ pairs)) (terms (pair ∷ pairs)) ∷ stack) code
-    by same next true e = simp e same
-    by same next false e = simp e next
-
-pub script_code-output : (sums : List Sum) → output_of [] (script_code sums) ≡ flat_map line_text sums
-script_code-output [] = refl
-script_code-output (sum ∷ sums) = rw (append_assoc (pairs_code None sum.pairs) (small.Print ∷ []) (script_code sums)) (output-first sum.pairs sum.first [] (small.Print ∷ script_code sums) ∙ ap (λ (b : List ℕ). line_text sum ++ b) (script_code-output sums))
+pub prints_on : {s t : List ℕ} {a b : List Small} → Prints s a → Prints t b → Prints (s ++ t) (a ++ b)
+prints_on {s = s} {t = t} {a = a} {b = b} c d = record {
+  runs = λ more h. rw (append_assoc a b more) (c.runs _ (d.runs more h));
+  output = λ more. rw (append_assoc a b more, append_assoc s t (output_of [] more)) (c.output _ ∙ ap (λ u. s ++ u) (d.output more));
+}

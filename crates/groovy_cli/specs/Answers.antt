@@ -1,10 +1,9 @@
 -- What the program has to say, and how the files stand then.
-use Rattle.std.specs.Prelude.{◌≡◌, ℕ, ◌+◌, ◌<◌, ◌≤◌, true, List, length, Some, Result, Ok, Err}
-use Rattle.gv_base.specs.declared.refusal.Refusal.{Refusal}
+use Rattle.std.specs.Prelude.{◌≡◌, ℕ, ◌+◌, ◌<◌, ◌≤◌, true, List, length, Some, Ok, Err}
 use Rattle.gv_outside.specs.Count.{HasRisen}
 use Rattle.gv_outside.specs.Files.{Contents, FilesState, content_of}
 use Rattle.gv_outside.specs.declared.files.TheConstants.{MOST_BYTES}
-use Rattle.groovy_cli.specs.Program.{Outcome, script_of, usage_outcome, unread_outcome, too_long_outcome, refused_outcome, printed_outcome}
+use Rattle.groovy_cli.specs.Program.{Outcome, Says, usage_outcome, unread_outcome, too_long_outcome, refused_outcome, printed_outcome}
 use Rattle.groovy_cli.specs.declared.answer.Answer.{Answer}
 use Rattle.groovy_cli.specs.declared.answer.Answer.TheVariants.{Usage, Unread, TooLong, Refused, Printed}
 
@@ -17,15 +16,15 @@ outcome file (Refused refusal) = refused_outcome file refusal
 outcome file (Printed bytes) = printed_outcome bytes.items
 
 -- the answer to a script that is refused or prints bytes
-abbrev pub Answers : Result (List ℕ) Refusal → Answer → Type 0
-Answers script (Refused refusal) = script ≡ Err refusal
-Answers script (Printed bytes) = script ≡ Ok bytes.items
+abbrev pub Answers : List ℕ → Answer → Type 0
+Answers script (Refused refusal) = Says script (Err refusal)
+Answers script (Printed bytes) = Says script (Ok bytes.items)
 Answers script answer = ⊥
 
 -- a file was read whole, and where its content is told, the answer is that to the script in it
 abbrev pub IsRead : List ℕ → FilesState → FilesState → Answer → Type 0
 IsRead file old new answer = (new.faults ≡ old.faults) × (new.place ≤ MOST_BYTES)
-    × ((contents : Contents) → old.contents ≡ Some contents → (length (content_of contents file) ≤ MOST_BYTES) × Answers (script_of (content_of contents file)) answer)
+    × ((contents : Contents) → old.contents ≡ Some contents → (length (content_of contents file) ≤ MOST_BYTES) × Answers (content_of contents file) answer)
 
 -- why an answer about a file is given
 abbrev pub Stands : List ℕ → FilesState → FilesState → Answer → Type 0

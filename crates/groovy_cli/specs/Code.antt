@@ -1,48 +1,40 @@
--- The code that is written for sums.
-use Rattle.std.specs.Prelude.{Bool, true, false, List, [], ◌∷◌, ◌++◌, flat_map, Option, Some, None, option_map, if◌then◌else◌}
-use Rattle.gv_lex.specs.Tokens.{What}
+-- What the code that is written for sums does.
+use Rattle.std.specs.Prelude.{◌≡◌, ℕ, suc, Bool, true, false, List, [], ◌∷◌, ◌++◌, Option, Some, None}
+use Rattle.gv_base.specs.declared.value.Value.{Value}
+use Rattle.gv_machine.specs.Small.{Runs, output_of}
 use Rattle.gv_machine.specs.declared.small.Small.{Small}
-use Rattle.gv_machine.specs.declared.small.Small.TheVariants.{Push, Plus, Minus, Multiply, Print}
-use Rattle.groovy_cli.specs.declared.operator.Operator.{Operator}
-use Rattle.groovy_cli.specs.declared.operator.Operator.TheVariants as operator
-use Rattle.groovy_cli.specs.Sums.{Pair, Sum, is_star, line_sums, pairs_of}
+use Rattle.gv_machine.specs.declared.small.Small.TheVariants.{Plus, Minus, Multiply}
+use Rattle.gv_tree.specs.declared.expr.Expr.{Expr, out-Expr}
+use Rattle.gv_tree.specs.declared.ops.BinaryOp.{BinaryOp}
+use Rattle.gv_tree.specs.declared.ops.BinaryOp.TheVariants as binary
+use Rattle.groovy_cli.specs.Sums.{value_of, printed_by}
 
-abbrev pub instruction_of : Operator → Small
-instruction_of operator.Plus = Plus
-instruction_of operator.Minus = Minus
-instruction_of operator.Star = Multiply
+abbrev pub instruction_of : BinaryOp → Option Small
+instruction_of binary.Plus = Some Plus
+instruction_of binary.Minus = Some Minus
+instruction_of binary.Multiply = Some Multiply
+instruction_of other = None
 
--- an operation waits until the product behind its sign has ended
-abbrev pub waiting_code : Option Small → List Small
-waiting_code None = []
-waiting_code (Some operation) = operation ∷ []
+-- a piece of code leaves a value on the stack
+pub record Computes (value : Value) (piece : List Small) : Type 0 where
+  pub runs : (depth : ℕ) (more : List Small) → Runs (suc depth) more → Runs depth (piece ++ more)
+  pub output : (stack : List Value) (more : List Small) → output_of stack (piece ++ more) ≡ output_of (value ∷ stack) more
 
--- the code of a pair behind a waiting operation, and what waits behind the pair: a factor is multiplied as it comes
-abbrev pub pair_code : Option Small → Pair → List Small
-pair_code waiting pair = if is_star pair.0 then Push pair.1 ∷ Multiply ∷ [] else waiting_code waiting ++ Push pair.1 ∷ []
+-- a piece of code prints a text, from an empty stack to an empty stack
+pub record Prints (text : List ℕ) (piece : List Small) : Type 0 where
+  pub runs : (more : List Small) → Runs 0 more → Runs 0 (piece ++ more)
+  pub output : (more : List Small) → output_of [] (piece ++ more) ≡ text ++ output_of [] more
 
-abbrev pub waiting_behind : Option Small → Operator → Option Small
-waiting_behind waiting o = if is_star o then waiting else Some (instruction_of o)
+-- what was written behind old code, for what is told of a tree; where nothing is, the code is of no use
+abbrev pub Written : {A : Type 0} → (A → List Small → Type 0) → Bool → Option A → List Small → List Small → Type 0
+Written Does true told old new = (a : _) × (told ≡ Some a) × (piece : List Small) × (new ≡ old ++ piece) × Does a piece
+Written Does false told old new = told ≡ None
 
-abbrev pub pairs_code : Option Small → List Pair → List Small
-pairs_code waiting [] = waiting_code waiting
-pairs_code waiting (pair ∷ pairs) = pair_code waiting pair ++ pairs_code (waiting_behind waiting pair.0) pairs
+-- the expression whose value a call prints, where it has one
+abbrev pub PrintedBy : Option ℕ → Expr → Option Expr → Type 0
+PrintedBy println call (Some sum) = printed_by println (out-Expr call) ≡ value_of sum
+PrintedBy println call None = printed_by println (out-Expr call) ≡ None
 
-abbrev pub sum_code : Sum → List Small
-sum_code sum = Push sum.first ∷ (pairs_code None sum.pairs ++ Print ∷ [])
-
-abbrev pub script_code : List Sum → List Small
-script_code sums = flat_map sum_code sums
-
--- a line's code, where the line is empty or a sum
-abbrev pub line_code : List What → Option (List Small)
-line_code line = option_map script_code (line_sums line)
-
--- the code of tokens that are pairs
-abbrev pub code_of_pairs : Option Small → List What → Option (List Small)
-code_of_pairs waiting tokens = option_map (pairs_code waiting) (pairs_of tokens)
-
--- what was written, unless the writing was given up
-abbrev pub if_written : Bool → List Small → Option (List Small)
-if_written true code = Some code
-if_written false code = None
+abbrev pub Compiled : Option (List Small) → Option (List ℕ) → Type 0
+Compiled (Some code) printed = (text : List ℕ) × (printed ≡ Some text) × Prints text code
+Compiled None printed = printed ≡ None

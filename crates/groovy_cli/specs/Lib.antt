@@ -2,5 +2,4 @@ pub mod Answers
 pub mod Code
 pub mod Program
 pub mod Sums
-pub mod Tokens
 pub mod Top

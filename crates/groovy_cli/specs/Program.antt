@@ -1,13 +1,17 @@
 -- What the program is to write and answer, for its words and the files' contents.
-use Rattle.std.specs.Prelude.{ℕ, ◌==◌, nat_lt, slice_index, List, [], ◌∷◌, map, flat_map, length, codes, Option, Some, None, Result, Ok, Err, if◌then◌else◌}
+use Rattle.std.specs.Prelude.{◌≡◌, ℕ, ◌==◌, ◌<◌, ◌≤◌, slice_index, All, List, [], ◌∷◌, map, flat_map, length, codes, Option, Some, None, Result, Ok, Err, if◌then◌else◌}
 use Rattle.std.specs.Fmt.{decimal}
-use Rattle.std.specs.Option.{option_map_or}
+use Rattle.gv_base.specs.Names.{name_of}
 use Rattle.gv_base.specs.Refusal.{number_of, text_of}
 use Rattle.gv_base.specs.declared.refusal.Refusal.{Refusal}
 use Rattle.gv_base.specs.declared.refusal.RefusalKind.TheVariants.{NotBuilt}
 use Rattle.gv_lex.specs.Lexing.{lexed}
 use Rattle.gv_lex.specs.Places.{file_start}
-use Rattle.gv_lex.specs.Tokens.{Spelled}
+use Rattle.gv_lex.specs.Tokens.{told, IsNamed}
+use Rattle.gv_lex.specs.declared.token.Token.{Token}
+use Rattle.gv_tree.specs.declared.top.Script.{Script}
+use Rattle.gv_exprs.specs.declared.parse.ParseError.TheVariants.{Refused}
+use Rattle.gv_stmts.specs.Parsed.{Parses}
 use Rattle.gv_outside.specs.Files.{Contents, content_of}
 use Rattle.gv_outside.specs.declared.files.TheConstants.{MOST_BYTES}
 use Rattle.groovy_cli.specs.Sums.{printed}
@@ -27,15 +31,18 @@ not_built = record { kind = NotBuilt; place = file_start 0 }
 
 abbrev pub or_not_built : Option (List ℕ) → Result (List ℕ) Refusal
 or_not_built None = Err not_built
-or_not_built (Some bytes) = Ok bytes
+or_not_built (Some text) = Ok text
 
-abbrev pub printed_unless : Result (List Spelled) Refusal → Result (List ℕ) Refusal
-printed_unless (Err refusal) = Err refusal
-printed_unless (Ok tokens) = or_not_built (printed (map (λ token. token.what) tokens))
+-- a file's tokens, by a table of their names
+pub record Lexes (bytes : List ℕ) (names : List (List ℕ)) (tokens : List Token) : Type 0 where
+  pub spelled : lexed 0 bytes ≡ Ok (map (told names) tokens)
+  pub named : All (IsNamed names) tokens
 
--- the first refusal of a file's bytes, or what the script prints
-abbrev pub script_of : List ℕ → Result (List ℕ) Refusal
-script_of bytes = printed_unless (lexed 0 bytes)
+-- what a file's bytes say: a refusal of them, or what their script prints
+pub data Says (bytes : List ℕ) : Result (List ℕ) Refusal → Type 0 where
+  no_tokens : {r : Refusal} → lexed 0 bytes ≡ Err r → Says bytes (Err r)
+  no_tree : {names : List (List ℕ)} {tokens : List Token} {r : Refusal} → Lexes bytes names tokens → Parses (Err (Refused r)) tokens → Says bytes (Err r)
+  a_tree : {names : List (List ℕ)} {tokens : List Token} {s : Script} → Lexes bytes names tokens → Parses (Ok s) tokens → Says bytes (or_not_built (printed (name_of names (codes "println")) s.tops))
 
 -- ---- the lines of `err`
 
@@ -93,9 +100,15 @@ abbrev pub script_outcome : List ℕ → Result (List ℕ) Refusal → Outcome
 script_outcome file (Ok output) = printed_outcome output
 script_outcome file (Err refusal) = refused_outcome file refusal
 
-abbrev pub file_outcome : List ℕ → List ℕ → Outcome
-file_outcome file bytes = if nat_lt MOST_BYTES (length bytes) then too_long_outcome file else script_outcome file (script_of bytes)
+-- what is written of a file, and the status
+pub data IsFileOutcome (file bytes : List ℕ) : Outcome → Type 0 where
+  too_long : MOST_BYTES < length bytes → IsFileOutcome file bytes (too_long_outcome file)
+  a_script : {script : Result (List ℕ) Refusal} → length bytes ≤ MOST_BYTES → Says bytes script → IsFileOutcome file bytes (script_outcome file script)
 
--- the program meaning
-abbrev pub outcome_of : List (List ℕ) → Contents → Outcome
-outcome_of words contents = option_map_or (λ file. file_outcome file (content_of contents file)) (file_of words) usage_outcome
+abbrev pub IsOutcomeOf : Option (List ℕ) → Contents → Outcome → Type 0
+IsOutcomeOf None contents outcome = outcome ≡ usage_outcome
+IsOutcomeOf (Some file) contents outcome = IsFileOutcome file (content_of contents file) outcome
+
+-- the program meaning: an outcome of the words and the files' contents
+abbrev pub IsOutcome : List (List ℕ) → Contents → Outcome → Type 0
+IsOutcome words contents outcome = IsOutcomeOf (file_of words) contents outcome

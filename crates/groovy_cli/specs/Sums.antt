@@ -1,138 +1,112 @@
--- What the lines of a script mean: each prints a sum.
-use Rattle.std.specs.Prelude.{ℕ, nat_le, bytes_eq, ◌*◌, ◌&&◌, Bool, true, false, List, [], ◌∷◌, ◌++◌, length, fold, flat_map, codes, Option, Some, None, option_map, option_and_then, if◌then◌else◌}
+-- What scripts of sums mean: each statement prints a sum.
+use Rattle.std.specs.Prelude.{ℕ, ◌==◌, Bool, false, List, [], ◌∷◌, ◌++◌, Option, Some, None, option_and_then, if◌then◌else◌}
 use Rattle.gv_base.specs.Arith.{applied}
 use Rattle.gv_base.specs.declared.value.Value.{Value}
 use Rattle.gv_base.specs.declared.value.Value.TheVariants.{Int, Long}
 use Rattle.gv_base.specs.declared.outcome.ArithOp.{ArithOp}
 use Rattle.gv_base.specs.declared.outcome.ArithOp.TheVariants as op
-use Rattle.gv_lex.specs.Tokens.{What, word, int, long, symbol, line_end, end}
-use Rattle.gv_lex.specs.declared.token.Word.TheVariants.{Name}
-use Rattle.gv_spelling.specs.declared.kinds.Symbol.{Symbol}
-use Rattle.gv_spelling.specs.declared.kinds.Symbol.TheVariants as symbols
+use Rattle.gv_tree.specs.declared.expr.Arg.{Arg, out-Arg}
+use Rattle.gv_tree.specs.declared.expr.Arg.TheOpen.{Arg-F, Expr-F, Stmt-F}
+use Rattle.gv_tree.specs.declared.expr.Atom.{Atom}
+use Rattle.gv_tree.specs.declared.expr.Atom.TheVariants as atom
+use Rattle.gv_tree.specs.declared.expr.Closure.{Closure}
+use Rattle.gv_tree.specs.declared.expr.Entry.{Entry}
+use Rattle.gv_tree.specs.declared.expr.Expr.{Expr, out-Expr, fold-Expr}
+use Rattle.gv_tree.specs.declared.expr.GString.{GString}
+use Rattle.gv_tree.specs.declared.expr.Item.{Item}
+use Rattle.gv_tree.specs.declared.expr.Key.{Key}
+use Rattle.gv_tree.specs.declared.expr.Label.{Label}
+use Rattle.gv_tree.specs.declared.expr.Param.{Param}
+use Rattle.gv_tree.specs.declared.expr.Part.{Part}
+use Rattle.gv_tree.specs.declared.ops.BinaryOp.{BinaryOp}
+use Rattle.gv_tree.specs.declared.ops.BinaryOp.TheVariants as binary
+use Rattle.gv_tree.specs.declared.stmt.Case.{Case}
+use Rattle.gv_tree.specs.declared.stmt.Catch.{Catch}
+use Rattle.gv_tree.specs.declared.stmt.Decl.{Decl}
+use Rattle.gv_tree.specs.declared.stmt.Stmt.{Stmt, out-Stmt}
+use Rattle.gv_tree.specs.declared.stmt.Var.{Var}
+use Rattle.gv_tree.specs.declared.top.Top.{Top}
+use Rattle.gv_tree.specs.declared.top.Top.TheVariants as top
 use Rattle.gv_machine.specs.Small.{text_of}
-use Rattle.groovy_cli.specs.declared.operator.Operator.{Operator}
-use Rattle.groovy_cli.specs.declared.operator.Operator.TheVariants.{Plus, Minus, Star}
-
--- ---- lines
-
-abbrev pub ends_line : What → Bool
-ends_line line_end = true
-ends_line end = true
-ends_line token = false
-
-abbrev pub with_first : What → List (List What) → List (List What)
-with_first token [] = (token ∷ []) ∷ []
-with_first token (line ∷ lines) = (token ∷ line) ∷ lines
-
--- the tokens between those that end a line
-abbrev pub lines_of : List What → List (List What)
-lines_of [] = [] ∷ []
-lines_of (token ∷ tokens) = if ends_line token then [] ∷ lines_of tokens else with_first token (lines_of tokens)
-
--- ---- the form of a line
-
--- the number that a token is
-abbrev pub number_of : What → Option Value
-number_of (int n) = Some (Int n)
-number_of (long n) = Some (Long n)
-number_of token = None
-
--- the operator that a symbol is
-abbrev pub symbol_operator : Symbol → Option Operator
-symbol_operator symbols.Plus = Some Plus
-symbol_operator symbols.Minus = Some Minus
-symbol_operator symbols.Star = Some Star
-symbol_operator s = None
-
-abbrev pub operator_of : What → Option Operator
-operator_of (symbol s) = symbol_operator s
-operator_of token = None
-
--- an operator and the number behind it
-abbrev pub Pair : Type 0
-Pair = Operator × Value
-
--- a number, and the pairs that follow it
-pub record Sum : Type 0 where
-  pub first : Value
-  pub pairs : List Pair
-
--- the pair that two tokens are
-abbrev pub pair_of : What → What → Option Pair
-pair_of token number = option_and_then (λ o. option_map (λ v. (o, v)) (number_of number)) (operator_of token)
-
-abbrev pub pairs_of : List What → Option (List Pair)
-pairs_of [] = Some []
-pairs_of (token ∷ number ∷ tokens) = option_and_then (λ pair. option_map (λ pairs. pair ∷ pairs) (pairs_of tokens)) (pair_of token number)
-pairs_of tokens = None
-
--- at most so many pairs stand in a line
-abbrev pub most_pairs : ℕ
-most_pairs = 299
-
-abbrev pub is_println : What → Bool
-is_println (word Name text) = bytes_eq text (codes "println")
-is_println token = false
-
--- `println`, a number and pairs
-abbrev pub sum_of : List What → Option Sum
-sum_of (token ∷ number ∷ tokens) =
-    if is_println token && nat_le (length tokens) (2 * most_pairs)
-    then option_and_then (λ v. option_map (λ pairs. record { first = v; pairs = pairs }) (pairs_of tokens)) (number_of number)
-    else None
-sum_of tokens = None
-
--- a line is empty or has one sum
-abbrev pub line_sums : List What → Option (List Sum)
-line_sums [] = Some []
-line_sums line = option_map (λ sum. sum ∷ []) (sum_of line)
-
-abbrev pub both : Option (List Sum) → Option (List Sum) → Option (List Sum)
-both (Some first) (Some behind) = Some (first ++ behind)
-both first behind = None
-
--- the sums of all lines, where all have the form
-abbrev pub all_sums : List (List What) → Option (List Sum)
-all_sums [] = Some []
-all_sums (line ∷ lines) = both (line_sums line) (all_sums lines)
 
 -- ---- the value of a sum
 
-abbrev pub op_of : Operator → ArithOp
-op_of Plus = op.Plus
-op_of Minus = op.Minus
-op_of Star = op.Multiply
+abbrev pub number_of : Atom → Option Value
+number_of (atom.Int n) = Some (Int n)
+number_of (atom.Long n) = Some (Long n)
+number_of other = None
 
-abbrev pub is_star : Operator → Bool
-is_star Star = true
-is_star o = false
+abbrev pub op_of : BinaryOp → Option ArithOp
+op_of binary.Plus = Some op.Plus
+op_of binary.Minus = Some op.Minus
+op_of binary.Multiply = Some op.Multiply
+op_of other = None
 
--- the numbers that follow a number by `*`, one after the other
-abbrev pub factors : List Pair → List Value
-factors [] = []
-factors (pair ∷ pairs) = if is_star pair.0 then pair.1 ∷ factors pairs else []
+abbrev pub combined : Option ArithOp → Option Value → Option Value → Option Value
+combined (Some o) (Some a) (Some b) = Some (applied o a b)
+combined o a b = None
 
--- a number times the factors that follow it
-abbrev pub product : Value → List Pair → Value
-product first pairs = fold (applied op.Multiply) first (factors pairs)
+abbrev Found : Type 0
+Found = Option Value
 
--- the products behind the first one, each with its sign
-abbrev pub terms : List Pair → List Pair
-terms [] = []
-terms (pair ∷ pairs) = if is_star pair.0 then terms pairs else (pair.0, product pair.1 pairs) ∷ terms pairs
+abbrev pub of_layer : Expr-F Found Found Found Found Found Found Found Found Found Found Found Found Found Found Found → Found
+of_layer (Expr-F.Atom p a) = number_of a
+of_layer (Expr-F.Paren p x) = x
+of_layer (Expr-F.Binary p o x y) = combined (op_of o) x y
+of_layer other = None
 
-abbrev pub add_term : Value → Pair → Value
-add_term value term = applied (op_of term.0) value term.1
+-- the value of integer literals, `+`, `-`, `*` and parentheses; any other expression has none here
+unfoldable pub value_of : Expr → Option Value
+value_of = fold-Expr Found Found Found Found Found Found Found Found Found Found Found Found Found Found Found
+    (λ x. None) (λ x. None) (λ x. None) of_layer (λ x. None) (λ x. None) (λ x. None) (λ x. None) (λ x. None) (λ x. None) (λ x. None) (λ x. None) (λ x. None) (λ x. None) (λ x. None)
 
--- the first product, and then each term added or subtracted, from left to right
-abbrev pub value_of : Sum → Value
-value_of sum = fold add_term (product sum.first sum.pairs) (terms sum.pairs)
+-- ---- what a statement prints
+
+abbrev pub Layer : Type 0
+Layer = Expr-F Arg Closure Entry Expr Item Key Label Stmt GString Param Part Case Catch Decl Var
+
+abbrev pub is_name : Option ℕ → ℕ → Bool
+is_name (Some m) n = m == n
+is_name None n = false
+
+-- an expression is the name `println`, which the table may have
+abbrev pub is_println : Option ℕ → Layer → Bool
+is_println println (Expr-F.Atom p (atom.Name n)) = is_name println n
+is_println println other = false
+
+abbrev pub plain_of : Arg-F Arg Closure Entry Expr Item Key Label Stmt GString Param Part Case Catch Decl Var → Option Expr
+plain_of (Arg-F.«Arg::Plain» x) = Some x
+plain_of other = None
+
+-- the only argument
+abbrev pub argument_of : List Arg → Option Expr
+argument_of (a ∷ []) = plain_of (out-Arg a)
+argument_of args = None
+
+-- the sum that a call of `println` prints
+abbrev pub printed_by : Option ℕ → Layer → Option Value
+printed_by println (Expr-F.Call p x args) = if is_println println (out-Expr x) then option_and_then value_of (argument_of args) else None
+printed_by println other = None
+
+abbrev pub of_stmt : Option ℕ → Stmt-F Arg Closure Entry Expr Item Key Label Stmt GString Param Part Case Catch Decl Var → Option Value
+of_stmt println (Stmt-F.Expr x) = printed_by println (out-Expr x)
+of_stmt println other = None
+
+abbrev pub line_of : Option ℕ → Top → Option Value
+line_of println (top.Stmt s) = of_stmt println (out-Stmt s)
+line_of println other = None
 
 -- ---- what a script prints
 
 -- a sum's value in decimal digits, and a line end
-abbrev pub line_text : Sum → List ℕ
-line_text sum = text_of (value_of sum) ++ 10 ∷ []
+abbrev pub line_text : Value → List ℕ
+line_text value = text_of value ++ 10 ∷ []
 
-abbrev pub printed : List What → Option (List ℕ)
-printed tokens = option_map (flat_map line_text) (all_sums (lines_of tokens))
+abbrev pub with_line : Option Value → Option (List ℕ) → Option (List ℕ)
+with_line (Some value) (Some text) = Some (line_text value ++ text)
+with_line value text = None
+
+-- a line of each statement, where all of them print sums
+abbrev pub printed : Option ℕ → List Top → Option (List ℕ)
+printed println [] = Some []
+printed println (t ∷ ts) = with_line (line_of println t) (printed println ts)

@@ -1,10 +1,11 @@
 -- What the top call promises: the cause of each status, and what is written with it.
-use Rattle.std.specs.Prelude.{◌≡◌, ◌≢◌, ℕ, ◌+◌, ◌<◌, ◌≤◌, ◌⊎◌, true, List, [], Some, None, IsSome, IfSome, IsErr, length}
+use Rattle.std.specs.Prelude.{◌≡◌, ◌≢◌, ℕ, ◌+◌, ◌<◌, ◌≤◌, ◌⊎◌, true, List, [], Some, None, IsSome, IfSome, Ok, Err, length}
+use Rattle.gv_base.specs.declared.refusal.Refusal.{Refusal}
 use Rattle.gv_outside.specs.Count.{HasRisen, IsSteady}
 use Rattle.gv_outside.specs.Files.{Contents, FilesState, content_of}
 use Rattle.gv_outside.specs.Sink.{SinkState, Takes, TakesPrefix}
 use Rattle.gv_outside.specs.declared.files.TheConstants.{MOST_BYTES}
-use Rattle.groovy_cli.specs.Program.{Outcome, file_of, script_of, outcome_of, usage_outcome, too_long_outcome, unread_outcome, unwritten_line}
+use Rattle.groovy_cli.specs.Program.{Outcome, file_of, Says, IsOutcome, usage_outcome, too_long_outcome, unread_outcome, unwritten_line}
 
 -- ---- the outside
 
@@ -70,21 +71,21 @@ Given outcome before after status = IsWhole outcome before after status ⊎ IsBr
 
 -- ---- the promises, over the words, the outside before and after the call, and the status
 
--- where the files tell their contents and nothing failed, the program meaning's bytes are written and its status answered
+-- where the files tell their contents and nothing failed, the bytes of an outcome that they have are written and its status answered
 abbrev pub Means : List (List ℕ) → Outside → Outside → ℕ → Type 0
 Means words before after status = (contents : Contents) → before.files.contents ≡ Some contents → IsSound before after
-    → (status ≡ 71) ⊎ ((status ≡ (outcome_of words contents).status) × IsWritten (outcome_of words contents) before.sinks after.sinks)
+    → (status ≡ 71) ⊎ ((outcome : Outcome) × IsOutcome words contents outcome × (status ≡ outcome.status) × IsWritten outcome before.sinks after.sinks)
 
 -- where nothing failed, the status is one of these, whatever is told
 abbrev pub IsComplete : Outside → Outside → ℕ → Type 0
 IsComplete before after status = IsSound before after → (status ≡ 71) ⊎ ((status ≡ 64) ⊎ ((status ≡ 65) ⊎ ((status ≡ 0) ⊎ (status ≡ 2))))
 
--- 2 exactly where the script that the files tell is refused, but for want of memory
+-- 2 where the script that the files tell is refused, and always where nothing that it says is printed, but for want of memory
 pub record IsRefused (words : List (List ℕ)) (before after : Outside) (status : ℕ) : Type 0 where
   pub cause : status ≡ 2 → (contents : Contents) → before.files.contents ≡ Some contents
-      → IfSome (file_of words) (λ file. IsErr (script_of (content_of contents file)))
+      → IfSome (file_of words) (λ file. (r : Refusal) × Says (content_of contents file) (Err r))
   pub always : IsSound before after → (contents : Contents) → before.files.contents ≡ Some contents
-      → IfSome (file_of words) (λ file. length (content_of contents file) ≤ MOST_BYTES → IsErr (script_of (content_of contents file)) → (status ≡ 2) ⊎ (status ≡ 71))
+      → IfSome (file_of words) (λ file. length (content_of contents file) ≤ MOST_BYTES → ((text : List ℕ) → Says (content_of contents file) (Ok text) → ⊥) → (status ≡ 2) ⊎ (status ≡ 71))
 
 -- 64 exactly where the words have no reading
 pub record IsUsage (words : List (List ℕ)) (before after : Outside) (status : ℕ) : Type 0 where
@@ -111,12 +112,12 @@ pub record IsUnwritten (words : List (List ℕ)) (before after : Outside) (statu
   pub at_err : before.sinks.err.faults < after.sinks.err.faults → status ≡ 74
   pub unread : status ≡ 74 → before.files.faults < after.files.faults → IfSome (file_of words) (λ file. IsCut (unread_outcome file) before.sinks after.sinks)
   pub cut : status ≡ 74 → IsSteady before.files.faults after.files.faults → (contents : Contents) → before.files.contents ≡ Some contents
-      → IsCut (outcome_of words contents) before.sinks after.sinks
+      → (outcome : Outcome) × IsOutcome words contents outcome × IsCut outcome before.sinks after.sinks
 
--- with 71 `err` has nothing, and `out` a prefix of the output
-pub record IsWanting (words : List (List ℕ)) (before after : Outside) (status : ℕ) : Type 0 where
+-- with 71 nothing is written
+pub record IsWanting (before after : Outside) (status : ℕ) : Type 0 where
   pub line : status ≡ 71 → Takes before.sinks.err [] after.sinks.err
-  pub output : status ≡ 71 → (contents : Contents) → before.files.contents ≡ Some contents → TakesPrefix before.sinks.out (outcome_of words contents).output after.sinks.out
+  pub output : status ≡ 71 → Takes before.sinks.out [] after.sinks.out
 
 -- no count falls, and no call changes what the files hold
 pub record IsKept (before after : Outside) : Type 0 where

@@ -1,12 +1,13 @@
 ghost use Rattle.std.specs.Prelude.{◌≡◌, ◌≤◌, length, IfOk, OnErr};
 ghost use Rattle.groovy_cli.specs.Answers.{Answers, Stands};
-ghost use Rattle.groovy_cli.specs.Program.{script_of, not_built};
+ghost use Rattle.groovy_cli.specs.Program.{not_built};
 
 use crate::compile::compile;
 use gv_base::{Names, OutOfMemory, Place, Refusal, RefusalKind};
 use gv_lex::{LexError, lex};
 use gv_machine::run_small;
 use gv_outside::{Files, MOST_BYTES, ReadError, read_whole};
+use gv_stmts::{ParseError, parse};
 use std::alloc::Global;
 
 /// What the program has to say of its words and its file.
@@ -42,7 +43,7 @@ pub fn answer_to<F: Files>(alloc: Global, file: &str, files: &mut F) -> Result<A
 /// The script's first refusal, or what it prints.
 fn script_answer(alloc: Global, script: &[u8]) -> Result<Answer, OutOfMemory>
     requires { length script.now ≤ MOST_BYTES }
-    ensures { IfOk result (Answers (script_of script.now)) }
+    ensures { IfOk result (Answers script.now) }
 {
     let mut names = Names::new(alloc);
     let tokens = match lex(alloc, 0, script, &mut names) {
@@ -50,7 +51,12 @@ fn script_answer(alloc: Global, script: &[u8]) -> Result<Answer, OutOfMemory>
         Err(LexError::Refused(refusal)) => return Ok(Answer::Refused(refusal)),
         Err(LexError::OutOfMemory) => return Err(OutOfMemory),
     };
-    match compile(alloc, &names, tokens.as_slice())? {
+    let tree = match parse(alloc, tokens.as_slice()) {
+        Ok(tree) => tree,
+        Err(ParseError::Refused(refusal)) => return Ok(Answer::Refused(refusal)),
+        Err(ParseError::OutOfMemory) => return Err(OutOfMemory),
+    };
+    match compile(alloc, &names, &tree)? {
         Some(code) => Ok(Answer::Printed(run_small(alloc, code.as_slice())?)),
         None => Ok(Answer::Refused(form_refusal())),
     }

@@ -1,191 +1,124 @@
-ghost use Rattle.std.specs.Prelude.{◌≡◌, ◌≤◌, ℕ, List, ◌++◌, length, take, None, option_copied, IfOk, OnOk, IfSome, IfNone, All, option_map};
-ghost use Rattle.gv_lex.specs.Tokens.{IsNamed, IsNameOf, what_of};
-ghost use Rattle.groovy_cli.specs.Code.{script_code, line_code, pair_code, code_of_pairs, waiting_code, waiting_behind, instruction_of, if_written};
-ghost use Rattle.groovy_cli.specs.Sums.{all_sums, lines_of, is_println, sum_of};
-ghost use Rattle.groovy_cli.specs.Tokens.{whats_of, line_len, ends_line_kind, number_of_kind, IsBehindLine, BeginsSum, BeginsWith, BeginsWithNone};
+//! The code of a script of sums.
 
-use crate::operator::{Operator, operator_in};
-use gv_base::{Names, OutOfMemory, Value};
-use gv_lex::{Token, TokenKind, Word};
+ghost use Rattle.std.specs.Prelude.{◌≡◌, codes, IfOk, option_copied, option_map};
+ghost use Rattle.gv_tree.specs.declared.expr.Expr.{out-Expr};
+ghost use Rattle.gv_base.specs.Names.{name_of};
+ghost use Rattle.groovy_cli.specs.Code.{instruction_of, Computes, Prints, Written, PrintedBy, Compiled};
+ghost use Rattle.groovy_cli.specs.Sums as spec;
+
+use gv_base::{Name, Names, OutOfMemory, Value};
 use gv_machine::Small;
+use gv_tree::{Arg, Atom, BinaryOp, Expr, Script, Stmt, Top};
 use std::alloc::Global;
 
-/// The most tokens behind the first number of a line: 299 operators, each with its number.
-const MOST_BEHIND: usize = 2 * 299;
-
-/// The code of the sums that a token list's lines are, or None where a line is no sum.
+/// The code of a script whose statements print sums, or None where one doesn't.
 pub fn compile(
     alloc: Global,
     names: &Names,
-    tokens: &[Token],
+    script: &Script,
 ) -> Result<Option<Vec<Small>>, OutOfMemory>
-    requires { All (IsNamed names.now) tokens.now }
-    ensures { IfOk result (λ code. option_map (λ c. c.items) code ≡ option_map script_code (all_sums (lines_of (whats_of names.now tokens.now)))) }
+    ensures { IfOk result (λ code. Compiled (option_map (λ c. c.items) code) (spec.printed (name_of names.now (codes "println")) script.now.tops)) }
 {
+    let println = names.find("println");
     let mut code = Vec::new(alloc);
-    let mut rest = Some(tokens);
-    'lines: while let Some(lines) = rest {
-        let (line, behind) = first_line(lines);
-        if !write_line(names, line, &mut code)? {
+    for top in script.tops.as_slice() {
+        if !write_line(println, top, &mut code)? {
             return Ok(None);
         }
-        rest = behind;
     }
     Ok(Some(code))
 }
 
-/// The tokens of the first line, and those behind its end where it has one.
-fn first_line(tokens: &[Token]) -> (&[Token], Option<&[Token]>)
-    ensures line { result.0.now ≡ take (line_len tokens.now) tokens.now }
-    ensures behind { IsBehindLine (option_copied result.1) tokens.now }
+/// Appends the code of a statement that prints a sum.
+fn write_line(println: Option<Name>, top: &Top, code: &mut Vec<Small>) -> Result<bool, OutOfMemory>
+    ensures { IfOk result (λ written. Written (λ value. Prints (spec.line_text value)) written (spec.line_of println top.now) code.old.items code.new.items) }
 {
-    let (line, behind) = tokens.split_at(line_length(tokens));
-    match behind.split_first() {
-        Some((_, next)) => (line, Some(next)),
-        None => (line, None),
-    }
-}
-
-/// How many tokens stand before the first that ends a line.
-fn line_length(tokens: &[Token]) -> usize
-    ensures value { result ≡ line_len tokens.now }
-    ensures within { result ≤ length tokens.now }
-{
-    for (index, token) in tokens.iter().enumerate() {
-        if ends_line(token.kind) {
-            return index;
-        }
-    }
-    tokens.len()
-}
-
-fn ends_line(kind: TokenKind) -> bool
-    ensures { result ≡ ends_line_kind kind }
-{
-    matches!(kind, TokenKind::LineEnd | TokenKind::End)
-}
-
-/// Appends a line's code. False where the line is no sum; then the code is of no use.
-fn write_line(names: &Names, line: &[Token], code: &mut Vec<Small>) -> Result<bool, OutOfMemory>
-    requires { All (IsNamed names.now) line.now }
-    ensures { IfOk result (λ written. if_written written code.new.items ≡ option_map (λ piece. code.old.items ++ piece) (line_code (whats_of names.now line.now))) }
-{
-    if line.is_empty() {
-        return Ok(true);
-    }
-    let Some((number, pairs)) = sum_start(names, line) else {
+    let Top::Stmt(Stmt::Expr(call)) = top else {
         return Ok(false);
     };
-    code.push(Small::Push(number))?;
-    if !write_pairs(pairs, code)? {
+    let Some(sum) = printed_by(println, call.get()) else {
+        return Ok(false);
+    };
+    if !write_sum(sum, code)? {
         return Ok(false);
     }
     code.push(Small::Print)?;
     Ok(true)
 }
 
-/// The first number of a line that begins as a sum does, and the tokens behind it.
-fn sum_start<'a>(names: &Names, line: &'a [Token]) -> Option<(Value, &'a [Token])>
-    requires { All (IsNamed names.now) line.now }
-    ensures found { IfSome result (λ start. BeginsSum names.now line.now start.0 start.1.now) }
-    ensures none { IfNone result (sum_of (whats_of names.now line.now) ≡ None) }
+/// The only argument of a call of `println`.
+fn printed_by(println: Option<Name>, call: &Expr) -> Option<&Expr>
+    ensures { PrintedBy println call.now (option_copied result) }
 {
-    let (first, behind) = line.split_first()?;
-    let (second, pairs) = behind.split_first()?;
-    let number = number_in(second.kind)?;
-    if is_println(names, first.kind) && pairs.len() <= MOST_BEHIND {
-        Some((number, pairs))
-    } else {
-        None
+    let Expr::Call(_, callee, args) = call else {
+        return None;
+    };
+    if !is_println(println, callee.get()) {
+        return None;
+    }
+    match args.as_slice() {
+        [Arg::Plain(sum)] => Some(sum.get()),
+        _ => None,
     }
 }
 
-/// Whether a token is the name `println`.
-fn is_println(names: &Names, kind: TokenKind) -> bool
-    requires { IsNameOf names.now kind }
-    ensures { result ≡ is_println (what_of names.now kind) }
+fn is_println(println: Option<Name>, callee: &Expr) -> bool
+    ensures { result ≡ spec.is_println println (out-Expr callee.now) }
 {
-    match kind {
-        TokenKind::Word(Word::Name, name) => names.text(name) == "println",
+    match callee {
+        Expr::Atom(_, Atom::Name(name)) => println == Some(*name),
         _ => false,
     }
 }
 
-/// Appends the code of operators, each with its number. False where the tokens are none.
-fn write_pairs(pairs: &[Token], code: &mut Vec<Small>) -> Result<bool, OutOfMemory>
-    ensures { IfOk result (λ written. (names : List (List ℕ)) → if_written written code.new.items ≡ option_map (λ piece. code.old.items ++ piece) (code_of_pairs None (whats_of names pairs.now))) }
+/// Appends the code of a sum.
+fn write_sum(sum: &Expr, code: &mut Vec<Small>) -> Result<bool, OutOfMemory>
+    ensures { IfOk result (λ written. Written Computes written (spec.value_of sum.now) code.old.items code.new.items) }
 {
-    let mut waiting = None;
-    let mut rest = pairs;
-    'pairs: while let Some((operator, number, behind)) = first_pair(rest) {
-        waiting = write_pair(waiting, operator, number, code)?;
-        rest = behind;
-    }
-    if !rest.is_empty() {
-        return Ok(false);
-    }
-    write_waiting(waiting, code)?;
-    Ok(true)
-}
-
-/// The operator and the number that tokens begin with, and the tokens behind them.
-fn first_pair(tokens: &[Token]) -> Option<(Operator, Value, &[Token])>
-    ensures found { IfSome result (λ pair. BeginsWith tokens.now (pair.0, pair.1) pair.2.now) }
-    ensures none { IfNone result (BeginsWithNone tokens.now) }
-{
-    let (first, behind) = tokens.split_first()?;
-    let (second, rest) = behind.split_first()?;
-    let operator = operator_in(first.kind)?;
-    let number = number_in(second.kind)?;
-    Some((operator, number, rest))
-}
-
-/// Appends the code of an operator and its number, and answers the operation that waits behind it.
-fn write_pair(
-    waiting: Option<Small>,
-    operator: Operator,
-    number: Value,
-    code: &mut Vec<Small>,
-) -> Result<Option<Small>, OutOfMemory>
-    ensures { IfOk result (λ next. (code.new.items ≡ code.old.items ++ pair_code waiting (operator, number)) × (next ≡ waiting_behind waiting operator)) }
-{
-    if operator == Operator::Star {
-        code.push(Small::Push(number))?;
-        code.push(Small::Multiply)?;
-        return Ok(waiting);
-    }
-    write_waiting(waiting, code)?;
-    code.push(Small::Push(number))?;
-    Ok(Some(instruction(operator)))
-}
-
-/// Appends the operation that waits, if there is one.
-fn write_waiting(waiting: Option<Small>, code: &mut Vec<Small>) -> Result<(), OutOfMemory>
-    ensures { OnOk result (code.new.items ≡ code.old.items ++ waiting_code waiting) }
-{
-    if let Some(operation) = waiting {
-        code.push(operation)?;
-    }
-    Ok(())
-}
-
-fn instruction(operator: Operator) -> Small
-    ensures { result ≡ instruction_of operator }
-{
-    match operator {
-        Operator::Plus => Small::Plus,
-        Operator::Minus => Small::Minus,
-        Operator::Star => Small::Multiply,
+    match sum {
+        Expr::Atom(_, atom) => {
+            let Some(number) = number_of(*atom) else {
+                return Ok(false);
+            };
+            code.push(Small::Push(number))?;
+            Ok(true)
+        }
+        Expr::Paren(_, inner) => write_sum(inner.get(), code),
+        Expr::Binary(_, op, left, right) => {
+            let Some(instruction) = instruction_of(*op) else {
+                return Ok(false);
+            };
+            if !write_sum(left.get(), code)? {
+                return Ok(false);
+            }
+            if !write_sum(right.get(), code)? {
+                return Ok(false);
+            }
+            code.push(instruction)?;
+            Ok(true)
+        }
+        _ => Ok(false),
     }
 }
 
-/// The number that a token is.
-fn number_in(kind: TokenKind) -> Option<Value>
-    ensures { result ≡ number_of_kind kind }
+fn number_of(atom: Atom) -> Option<Value>
+    ensures { result ≡ spec.number_of atom }
 {
-    match kind {
-        TokenKind::Int(number) => Some(Value::Int(number)),
-        TokenKind::Long(number) => Some(Value::Long(number)),
+    match atom {
+        Atom::Int(int) => Some(Value::Int(int)),
+        Atom::Long(long) => Some(Value::Long(long)),
+        _ => None,
+    }
+}
+
+/// The instruction of an operator of sums.
+fn instruction_of(op: BinaryOp) -> Option<Small>
+    ensures { result ≡ instruction_of op }
+{
+    match op {
+        BinaryOp::Plus => Some(Small::Plus),
+        BinaryOp::Minus => Some(Small::Minus),
+        BinaryOp::Multiply => Some(Small::Multiply),
         _ => None,
     }
 }

@@ -16,7 +16,7 @@ pub const WANT_OF_MEMORY: u8 = 71;
 ///
 /// `words` are those behind the program's name, and `looks` counts fresh look-ups, of which there
 /// are none yet. The clauses say of each status when it comes and what is written with it; the
-/// program meaning is `outcome_of`.
+/// program meaning is `IsOutcome`.
 pub fn groovy<F: Files, O: Sink, E: Sink, L: Ledger>(
     alloc: Global,
     words: &[String],
@@ -46,7 +46,7 @@ pub fn groovy<F: Files, O: Sink, E: Sink, L: Ledger>(
     ensures unwritten { IsUnwritten (map string_bytes words.now)
         (outside (F.state files.old) (O.state out.old) (E.state err.old))
         (outside (F.state files.new) (O.state out.new) (E.state err.new)) result }
-    ensures wanting { IsWanting (map string_bytes words.now)
+    ensures wanting { IsWanting
         (outside (F.state files.old) (O.state out.old) (E.state err.old))
         (outside (F.state files.new) (O.state out.new) (E.state err.new)) result }
     ensures kept { IsKept

@@ -1,0 +1,8 @@
+pub mod Leads
+pub mod Lengths
+pub mod MemberPhrases
+pub mod Noted
+pub mod Routines
+pub mod ScriptLengths
+pub mod TopPhrases
+pub mod Whole
