@@ -12,6 +12,30 @@ import tokenize
 MIB = 1 << 20
 PROGRAM = os.path.join(os.path.dirname(os.path.abspath(__file__)), '../crates/groovy_cli/out/groovy_cli')
 
+# an ordinary script
+SCRIPT = b'''def greet(String name, int times = 1) {
+    for (int i = 0; i < times; i++) {
+        println "Hello, ${name}! ${i + 1} of $times"
+    }
+    return [name: name, times: times]
+}
+class Point {
+    int x, y
+    Point(int x, int y) { this.x = x; this.y = y }
+    def plus(Point other) { new Point(x + other.x, y + other.y) }
+}
+list.findAll { it.size > 3 }.collect { it.name.toUpperCase() }.each { println it }
+task build(dependsOn: 'clean') {
+    doLast { copy from: src, to: "build/$version" }
+}
+try {
+    if (a == b && c != null) { foo(a, b: 2) } else { bar c, d }
+} catch (IOException | RuntimeException e) {
+    throw new IllegalStateException('bad', e)
+} finally { close() }
+switch (x) { case 1: y = 2; break; default: y = x ? 3 : 4 }
+'''
+
 # name, what the file begins with, the piece that fills it, what ends it, and the piece of a similar text in Python;
 # the numbers in a piece are others each time
 CASES = (
@@ -25,12 +49,20 @@ CASES = (
     ('open comment', b'', b'/*', b'', None),
     ('one string', b"'", b'text', b"'", None),
     ('parts', b'', b'"text ${name} $other.third"\n', b'', b'"text" ;name ;other.third\n'),
+    ('script', b'', SCRIPT, b'', None),
+    ('one list', b'x = [', b'1, ', b'1]', None),
+    ('braces', b'', b'{', b'', None),
+    ('closures', b'', b'a { ', b'', None),
+    ('heads', b'', b'if (a)\n', b'', None),
+    ('parentheses', b'', b'(', b'', None),
+    ('members', b'a', b'.b', b'', None),
+    ('commands', b'', b'a ', b'', None),
 )
 
 
 def numbered(piece, count):
     """So many pieces, their numbers counted up."""
-    holes = piece.count(b'%')
+    holes = piece.count(b'%0')
     if not holes:
         return piece * count
     return b''.join(piece % tuple(range(n * holes, (n + 1) * holes)) for n in range(count))
@@ -64,8 +96,10 @@ def main():
         seconds, status, written, err = measure(sys.argv[1])
         peak = resource.getrusage(resource.RUSAGE_CHILDREN).ru_maxrss
         size = os.path.getsize(sys.argv[1])
-        print('%8.3f s  %10.0f bytes/s  %8d KiB  status %d, %d bytes written %s'
-              % (seconds, size / seconds, peak, status, written, err.decode().rpartition('/')[2].strip()))
+        with open(sys.argv[1], 'rb') as file:
+            lines = file.read().count(b'\n')
+        print('%8.3f s  %10.0f bytes/s  %8.0f lines/s  %8d KiB  status %d, %d bytes written %s'
+              % (seconds, size / seconds, lines / seconds, peak, status, written, err.decode().rpartition('/')[2].strip()))
         return
     with tempfile.TemporaryDirectory() as folder:
         for name, head, piece, tail, similar in CASES:
