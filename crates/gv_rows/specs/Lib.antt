@@ -1,0 +1,4 @@
+pub mod Reply
+pub mod Sources
+pub mod Takes
+pub mod Values
