@@ -1,0 +1,4 @@
+mod Bounds
+mod Cut
+mod Decided
+pub mod Joined
