@@ -1,0 +1,12 @@
+pub mod Scope
+pub mod Placed
+pub mod Comes
+pub mod Ticks
+pub mod Run
+pub mod Exprs
+pub mod Stmts
+pub mod Does
+pub mod Loops
+pub mod Trees
+pub mod Bodies
+pub mod Done

@@ -1,0 +1,3 @@
+pub mod Written
+pub mod Correct
+pub mod Ending
