@@ -1,0 +1,3 @@
+pub mod Forms
+pub mod Forward
+pub mod Right
