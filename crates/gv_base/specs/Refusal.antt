@@ -3,7 +3,7 @@ use Rattle.std.specs.Prelude.{ℕ, List, codes}
 use Rattle.gv_base.specs.declared.refusal.Foreign.{Foreign}
 use Rattle.gv_base.specs.declared.refusal.Foreign.TheVariants as foreign
 use Rattle.gv_base.specs.declared.refusal.RefusalKind.{RefusalKind}
-use Rattle.gv_base.specs.declared.refusal.RefusalKind.TheVariants.{NotUtf8, UnendedString, UnendedComment, BadEscape, BadNumber, LiteralPast64Bits, StrayCharacter, SlashyString, UnendedInterpolation, UnexpectedToken, PlainDivision, NotInProfile, NestedTooDeep, NotBuilt}
+use Rattle.gv_base.specs.declared.refusal.RefusalKind.TheVariants.{NotUtf8, UnendedString, UnendedComment, BadEscape, BadNumber, LiteralPast64Bits, StrayCharacter, SlashyString, UnendedInterpolation, UnexpectedToken, PlainDivision, NotInProfile, NestedTooDeep, NameDeclaredTwice, UnknownClass, ImportOutsideProfile, LooseStatement, PropertyOverride, SuperclassCircle, MethodDeclaredTwice, AnnotationOutOfPlace, NothingToLeave, ThisOrSuperOutOfPlace, NotBuilt}
 
 abbrev pub number_of : RefusalKind → ℕ
 number_of NotUtf8 = 1
@@ -19,6 +19,16 @@ number_of UnexpectedToken = 10
 number_of PlainDivision = 11
 number_of (NotInProfile f) = 12
 number_of NestedTooDeep = 13
+number_of NameDeclaredTwice = 20
+number_of UnknownClass = 21
+number_of ImportOutsideProfile = 22
+number_of LooseStatement = 23
+number_of PropertyOverride = 24
+number_of SuperclassCircle = 25
+number_of MethodDeclaredTwice = 26
+number_of AnnotationOutOfPlace = 27
+number_of NothingToLeave = 28
+number_of ThisOrSuperOutOfPlace = 29
 number_of NotBuilt = 40
 
 abbrev pub foreign_text : Foreign → List ℕ
@@ -62,4 +72,14 @@ text_of UnexpectedToken = codes "unexpected token"
 text_of PlainDivision = codes "plain division"
 text_of (NotInProfile f) = foreign_text f
 text_of NestedTooDeep = codes "nested too deep"
+text_of NameDeclaredTwice = codes "name declared twice"
+text_of UnknownClass = codes "unknown class"
+text_of ImportOutsideProfile = codes "import outside this profile"
+text_of LooseStatement = codes "loose statement"
+text_of PropertyOverride = codes "property override"
+text_of SuperclassCircle = codes "superclass circle"
+text_of MethodDeclaredTwice = codes "method declared twice"
+text_of AnnotationOutOfPlace = codes "annotation out of place"
+text_of NothingToLeave = codes "nothing to leave"
+text_of ThisOrSuperOutOfPlace = codes "this or super out of place"
 text_of NotBuilt = codes "not built yet"

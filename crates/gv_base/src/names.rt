@@ -59,14 +59,13 @@ impl Names {
         self.texts.get_index_of(text)
     }
 
-    /// The text of a name of this table.
+    /// The text of a name; none for a name that the table doesn't have.
     pub fn text(&self, name: Name) -> &str
-        requires { name < length self.now }
         ensures { result.now ≡ text_of self.now name }
     {
         match self.texts.get_index(name) {
             Some(text) => text.as_str(),
-            None => unreachable!(),
+            None => "",
         }
     }
 

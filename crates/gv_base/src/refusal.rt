@@ -131,6 +131,26 @@ pub enum RefusalKind {
     NotInProfile(Foreign),
     /// A token inside too much that is open.
     NestedTooDeep,
+    /// A name of a local, a field or a class that is declared already.
+    NameDeclaredTwice,
+    /// A class that isn't known, or isn't imported.
+    UnknownClass,
+    /// An import of anything that the profile doesn't have.
+    ImportOutsideProfile,
+    /// A statement in a file that isn't the first.
+    LooseStatement,
+    /// A method `getProperty` or `setProperty`.
+    PropertyOverride,
+    /// A class that is among its own superclasses.
+    SuperclassCircle,
+    /// A method of a name and of types that another one of its class has.
+    MethodDeclaredTwice,
+    /// An annotation at what it doesn't speak of.
+    AnnotationOutOfPlace,
+    /// A `break` or `continue` outside of what it leaves.
+    NothingToLeave,
+    /// A `this` or `super` where it means nothing.
+    ThisOrSuperOutOfPlace,
     /// A script of a form that can't be run yet.
     NotBuilt,
 }
@@ -154,6 +174,16 @@ impl RefusalKind {
             RefusalKind::PlainDivision => 11,
             RefusalKind::NotInProfile(_) => 12,
             RefusalKind::NestedTooDeep => 13,
+            RefusalKind::NameDeclaredTwice => 20,
+            RefusalKind::UnknownClass => 21,
+            RefusalKind::ImportOutsideProfile => 22,
+            RefusalKind::LooseStatement => 23,
+            RefusalKind::PropertyOverride => 24,
+            RefusalKind::SuperclassCircle => 25,
+            RefusalKind::MethodDeclaredTwice => 26,
+            RefusalKind::AnnotationOutOfPlace => 27,
+            RefusalKind::NothingToLeave => 28,
+            RefusalKind::ThisOrSuperOutOfPlace => 29,
             RefusalKind::NotBuilt => 40,
         }
     }
@@ -176,6 +206,16 @@ impl RefusalKind {
             RefusalKind::PlainDivision => "plain division",
             RefusalKind::NotInProfile(foreign) => foreign.text(),
             RefusalKind::NestedTooDeep => "nested too deep",
+            RefusalKind::NameDeclaredTwice => "name declared twice",
+            RefusalKind::UnknownClass => "unknown class",
+            RefusalKind::ImportOutsideProfile => "import outside this profile",
+            RefusalKind::LooseStatement => "loose statement",
+            RefusalKind::PropertyOverride => "property override",
+            RefusalKind::SuperclassCircle => "superclass circle",
+            RefusalKind::MethodDeclaredTwice => "method declared twice",
+            RefusalKind::AnnotationOutOfPlace => "annotation out of place",
+            RefusalKind::NothingToLeave => "nothing to leave",
+            RefusalKind::ThisOrSuperOutOfPlace => "this or super out of place",
             RefusalKind::NotBuilt => "not built yet",
         }
     }

@@ -15,7 +15,7 @@ use Rattle.gv_grammar.proofs.StmtFirsts.{no_stmt, ended_at, separated_at}
 use Rattle.gv_grammar.proofs.Stmts.{by_arrow, ends_or_separates, separates_once, after_stops, stmt_once, params_once, body_of_once}
 use Rattle.gv_grammar.proofs.Lengths.{less}
 use Rattle.gv_cursor.specs.Reading.{Stopped}
-use Rattle.gv_blocks.proofs.Lengths.{of_separates, of_stmt, of_body_of}
+use Rattle.gv_grammar.proofs.StmtLengths.{of_separates, of_stmt, of_body_of}
 
 drop-drop : {A : Type 0} (m n : ℕ) (xs : List A) → drop n (drop m xs) ≡ drop (m + n) xs
 drop-drop zero n xs = let e : n ≡ zero + n = omega arith in ap (λ k. drop k xs) e

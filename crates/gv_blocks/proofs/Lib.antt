@@ -2,7 +2,6 @@ pub mod Bodies
 pub mod Following
 pub mod ForHeads
 pub mod ForStmts
-pub mod Lengths
 pub mod Nested
 pub mod StmtKinds
 pub mod SwitchStmts

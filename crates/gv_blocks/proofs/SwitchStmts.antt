@@ -18,7 +18,7 @@ use Rattle.gv_grammar.proofs.Stmts.{keyword_or_symbol, keywords_agree, separates
 use Rattle.gv_grammar.proofs.Tails.{Stops, at_colon}
 use Rattle.gv_cursor.specs.Reading.{Stopped}
 use Rattle.gv_blocks.specs.Phrases.{IsCase, with_value, without}
-use Rattle.gv_blocks.proofs.Lengths.{of_separates, of_value, of_stmts}
+use Rattle.gv_grammar.proofs.StmtLengths.{of_separates, of_value, of_stmts}
 
 two_words : {ts us vs : List Token} → EatsKeyword keyword.Case ts us → EatsKeyword keyword.Default ts vs → ⊥
 two_words p q = let a = keywords_agree p q in cc

@@ -24,7 +24,7 @@ use Rattle.gv_cursor.specs.Reading.{Stopped}
 use Rattle.gv_decls.specs.Phrases.{IsName, a_name}
 use Rattle.gv_blocks.specs.Phrases.{IsCatch, one_catch}
 use Rattle.gv_blocks.proofs.Bodies.{not_next, word_of}
-use Rattle.gv_blocks.proofs.Lengths.{of_may_types, of_block}
+use Rattle.gv_grammar.proofs.StmtLengths.{of_may_types, of_block}
 
 pub of_name : {i : Ident} {ts rest : List Token} → IsName i ts rest → Takes 1 ts rest
 of_name (a_name n) = of_as n

@@ -12,6 +12,8 @@
 
 mod commands;
 #[cfg(test)]
+mod expression_tests;
+#[cfg(test)]
 mod tests;
 
 pub use commands::read_full;

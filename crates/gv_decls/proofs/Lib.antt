@@ -1,5 +1,4 @@
 pub mod Declarations
 pub mod Filled
-pub mod Lengths
 pub mod ParamPhrases
 pub mod PlainStmts

@@ -24,8 +24,6 @@ mod parse;
 mod paths;
 mod reader;
 mod strings;
-#[cfg(test)]
-mod tests;
 mod top;
 
 pub use elements::{is_colon, key_of};

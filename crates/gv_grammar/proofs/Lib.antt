@@ -1,4 +1,5 @@
 pub mod Lengths
+pub mod StmtLengths
 pub mod Single
 pub mod Firsts
 pub mod Closures

@@ -1,5 +1,5 @@
 -- The world in which a script begins.
-use Rattle.std.specs.Prelude.{ℕ, ◌+◌, ◌-◌, ◌^◌, ◌<◌, List, [], ◌∷◌, length, min, All}
+use Rattle.std.specs.Prelude.{ℕ, ◌+◌, ◌-◌, ◌^◌, List, [], ◌∷◌, length, min}
 use Rattle.gv_base.specs.Names.{text_of}
 use Rattle.gv_base.specs.declared.limits.Limits.{Limits}
 use Rattle.gv_classes.specs.declared.declared.Declared.{Declared}
@@ -7,10 +7,6 @@ use Rattle.gv_heap.specs.Heap.{HeapState, with_new, pay}
 use Rattle.gv_heap.specs.declared.object.Object.{Object}
 use Rattle.gv_heap.specs.declared.object.Object.TheVariants as object
 use Rattle.gv_meaning.specs.World.{World}
-
--- the texts are names of the table
-abbrev pub AreNames : List (List ℕ) → List ℕ → Type 0
-AreNames names texts = All (λ text. text < length names) texts
 
 -- the heap with a string for each text, in order, which take no cells; and which is whose
 abbrev pub with_literals : List (List ℕ) → List ℕ → HeapState → HeapState

@@ -1,6 +1,6 @@
 ghost use Rattle.std.specs.Prelude.{◌≡◌, ◌+◌, ◌≤◌, [], length, IfOk, OnOk};
 ghost use Rattle.gv_heap.specs.Heap.{with_new, pay};
-ghost use Rattle.gv_meaning.specs.Opening.{AreNames, with_literals, numbered, opened_world};
+ghost use Rattle.gv_meaning.specs.Opening.{with_literals, numbered, opened_world};
 ghost use Rattle.gv_heap.specs.declared.object.Object.TheVariants.{Instance as InstanceObject};
 
 use crate::output::Output;
@@ -20,7 +20,6 @@ pub fn opening(
     texts: &[Name],
     limits: Limits,
 ) -> Result<World, OutOfMemory>
-    requires { AreNames names.now texts.now }
     ensures { IfOk result (λ world. world ≡ opened_world names.now classes texts.now limits) }
 {
     let names = names.copy(alloc)?;
@@ -47,7 +46,6 @@ fn make_literals(
     texts: &[Name],
     heap: &mut Heap,
 ) -> Result<Items<(Name, ObjId)>, OutOfMemory>
-    requires { AreNames names.now texts.now }
     ensures numbers { IfOk result (λ literals. literals ≡ numbered (length heap.old.objects) texts.now) }
     ensures strings { OnOk result (heap.new ≡ with_literals names.now texts.now heap.old) }
 {

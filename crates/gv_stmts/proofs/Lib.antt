@@ -1,5 +1,4 @@
 pub mod Leads
-pub mod Lengths
 pub mod MemberPhrases
 pub mod Noted
 pub mod Routines

@@ -17,7 +17,7 @@ use Rattle.gv_spelling.specs.declared.kinds.Keyword.{Keyword}
 use Rattle.gv_grammar.specs.Phrases.{Takes}
 use Rattle.gv_grammar.specs.Scripts.{AreModifiers, no_modifier, a_modifier, IsDotted, last_dotted, more_dotted, is_all, not_all, IsImport, an_import, MayName, a_name, no_name, AreSettings, last_setting, more_settings, MaySettings, no_parens, empty_parens, settings, AreAnnotations, no_annotation, an_annotation, IsAnswer, a_void, an_answer, IsRoutine, routine, IsMethod, method, IsMember, a_method, a_constructor, a_field, AreMembers, no_member, member_parted, one_member, AreBehindMember, members_end, members_go_on, IsClass, a_class, IsTop, top_import, top_class, top_method, top_decl, top_stmt}
 use Rattle.gv_grammar.proofs.Lengths.{takes_none, takes_one, then, weaken, of_eats, of_keyword, of_as}
-use Rattle.gv_stmts.proofs.Lengths.{behind, of_separates, of_may_line, of_value, of_var_type, of_params, of_vars, of_decl, of_stmt, of_block}
+use Rattle.gv_grammar.proofs.StmtLengths.{behind, of_separates, of_may_line, of_value, of_var_type, of_params, of_vars, of_decl, of_stmt, of_block}
 
 pub of_modifiers : {m : Modifiers} {ts rest : List Token} → AreModifiers m ts rest → Takes 0 ts rest
 of_modifiers (no_modifier p) = takes_none

@@ -5,7 +5,7 @@ use Rattle.gv_grammar.specs.Tokens.{Eats}
 use Rattle.gv_grammar.specs.Scripts.{IsDotted, MaySettings, AreAnnotations, no_annotation, an_annotation}
 use Rattle.gv_grammar.proofs.Lengths.{less, no_more, of_eats}
 use Rattle.gv_cursor.proofs.Results.{passed_on_exactly}
-use Rattle.gv_stmts.proofs.Lengths.{of_may_line}
+use Rattle.gv_grammar.proofs.StmtLengths.{of_may_line}
 use Rattle.gv_stmts.proofs.ScriptLengths.{of_dotted, of_may_settings}
 use Rattle.gv_stmts.proofs.Noted.{passed, no_note_path, no_note_settings, no_more_notes}
 use Rattle.gv_stmts.proofs.classes.annotations.Goals as goal

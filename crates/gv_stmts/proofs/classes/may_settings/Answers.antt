@@ -8,7 +8,7 @@ use Rattle.gv_cursor.specs.Reading.{Stopped}
 use Rattle.gv_cursor.proofs.Results.{passed_on_exactly, unexpected_on_exactly}
 use Rattle.gv_decls.specs.Phrases.{IsName}
 use Rattle.gv_stmts.proofs.Leads.{of_name}
-use Rattle.gv_stmts.proofs.Lengths.{of_value}
+use Rattle.gv_grammar.proofs.StmtLengths.{of_value}
 use Rattle.gv_stmts.proofs.Noted.{no_parens_here, no_settings, last_of_settings, more_of_settings, no_setting_name, no_setting_assign, no_setting_value, no_setting_comma, no_more_settings}
 use Rattle.gv_stmts.proofs.classes.may_settings.Goals as goal
 

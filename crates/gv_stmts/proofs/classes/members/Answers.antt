@@ -7,7 +7,7 @@ use Rattle.gv_grammar.specs.Scripts.{IsMember, AreMembers, no_member, member_par
 use Rattle.gv_grammar.proofs.Lengths.{less, no_more}
 use Rattle.gv_cursor.specs.Reading.{Stopped}
 use Rattle.gv_cursor.proofs.Results.{passed_on_exactly}
-use Rattle.gv_stmts.proofs.Lengths.{of_separates}
+use Rattle.gv_grammar.proofs.StmtLengths.{of_separates}
 use Rattle.gv_stmts.proofs.ScriptLengths.{of_member}
 use Rattle.gv_stmts.proofs.MemberPhrases.{not_parted, no_members_here, no_more_members, members_break_off}
 use Rattle.gv_stmts.proofs.classes.members.Goals as goal

@@ -6,7 +6,7 @@ use Rattle.gv_grammar.specs.Scripts.{IsTop, AreTops, no_top, top_parted, one_top
 use Rattle.gv_grammar.proofs.Lengths.{less, no_more}
 use Rattle.gv_cursor.specs.Reading.{Stopped}
 use Rattle.gv_cursor.proofs.Results.{passed_on_exactly}
-use Rattle.gv_stmts.proofs.Lengths.{of_separates}
+use Rattle.gv_grammar.proofs.StmtLengths.{of_separates}
 use Rattle.gv_stmts.proofs.ScriptLengths.{of_top}
 use Rattle.gv_stmts.proofs.TopPhrases.{not_parted, no_tops_here, no_more_tops, tops_break_off}
 use Rattle.gv_stmts.proofs.script.tops.Goals as goal

@@ -7,7 +7,7 @@ use Rattle.gv_grammar.proofs.Lengths.{less, of_keyword, of_eats}
 use Rattle.gv_cursor.specs.Reading.{Stopped}
 use Rattle.gv_cursor.proofs.Results.{passed_on_exactly, unexpected_on_exactly}
 use Rattle.gv_blocks.specs.Phrases.{IsCase, with_value, without}
-use Rattle.gv_blocks.proofs.Lengths.{of_value}
+use Rattle.gv_grammar.proofs.StmtLengths.{of_value}
 use Rattle.gv_blocks.proofs.SwitchStmts.{no_default_colon, no_default_stmts, no_case_word, no_case_value, no_case_colon, no_case_stmts}
 use Rattle.gv_blocks.proofs.reader.Blocks.case.Goals as goal
 

@@ -3,7 +3,7 @@ use Rattle.gv_grammar.specs.Stmts.{AreCases}
 use Rattle.gv_grammar.proofs.Lengths.{less}
 use Rattle.gv_cursor.proofs.Results.{passed_on_exactly}
 use Rattle.gv_blocks.specs.Phrases.{IsCase}
-use Rattle.gv_blocks.proofs.Lengths.{of_separates}
+use Rattle.gv_grammar.proofs.StmtLengths.{of_separates}
 use Rattle.gv_blocks.proofs.SwitchStmts.{of_case, parted_none, parted_more, cases_begin, cases_more, cases_end, no_more_cases}
 use Rattle.gv_blocks.proofs.reader.Blocks.cases.Goals as goal
 

@@ -7,7 +7,7 @@ use Rattle.gv_grammar.proofs.Lengths.{less, of_keyword, of_eats, no_more}
 use Rattle.gv_cursor.proofs.Results.{passed_on_exactly, unexpected_on_exactly}
 use Rattle.gv_decls.specs.Phrases.{IsName}
 use Rattle.gv_blocks.specs.Phrases.{IsCatch}
-use Rattle.gv_blocks.proofs.Lengths.{of_may_types}
+use Rattle.gv_grammar.proofs.StmtLengths.{of_may_types}
 use Rattle.gv_blocks.proofs.TryStmts.{of_name, catch_here, no_catch_word, no_catch_open, no_catch_types, no_catch_name, no_catch_close, no_catch_block}
 use Rattle.gv_blocks.proofs.reader.Blocks.catch.Goals as goal
 

@@ -3,7 +3,7 @@ use Rattle.gv_spelling.specs.declared.kinds.Symbol.TheVariants as symbol
 use Rattle.gv_grammar.specs.Stmts.{has_arrow, AreParams, AreStmts, IsBodyOf, no_params, with_params}
 use Rattle.gv_grammar.proofs.Lengths.{less}
 use Rattle.gv_cursor.proofs.Results.{passed_on_exactly}
-use Rattle.gv_blocks.proofs.Lengths.{of_params}
+use Rattle.gv_grammar.proofs.StmtLengths.{of_params}
 use Rattle.gv_blocks.proofs.Following.{no_body_plain, no_body_params, no_body_stmts}
 use Rattle.gv_blocks.proofs.reader.Blocks.closure_of.Goals as goal
 

@@ -2,7 +2,7 @@ use Rattle.gv_grammar.proofs.Single.{along}
 use Rattle.gv_grammar.specs.Stmts.{IsForIn, by_in, by_colon}
 use Rattle.gv_grammar.proofs.Lengths.{of_as}
 use Rattle.gv_decls.specs.Phrases.{IsTyped}
-use Rattle.gv_blocks.proofs.Lengths.{of_typed, of_for_in}
+use Rattle.gv_grammar.proofs.StmtLengths.{of_typed, of_for_in}
 use Rattle.gv_blocks.proofs.reader.Blocks.for_in.Goals.{then-not-eat_keyword+in_ok-expect-2, else-not-eat_keyword}
 use Rattle.gv_spelling.specs.declared.kinds.Symbol.TheVariants as symbol
 use Rattle.std.proofs.Common.{◌≡◌, sym, arith, List}
@@ -13,7 +13,7 @@ use Rattle.gv_grammar.proofs.Lengths.{less, of_keyword, of_eats, no_more}
 use Rattle.gv_cursor.specs.Reading.{Stopped}
 use Rattle.gv_cursor.proofs.Results.{passed_on_exactly, unexpected_on_exactly}
 use Rattle.gv_decls.specs.Phrases.{IsName}
-use Rattle.gv_blocks.proofs.Lengths.{of_value, of_may_line}
+use Rattle.gv_grammar.proofs.StmtLengths.{of_value, of_may_line}
 use Rattle.gv_blocks.proofs.ForStmts.{no_for_open}
 use Rattle.gv_blocks.proofs.ForHeads.{head_of, typed_there, typed_here, name_there, named_here, follows_there, Headed, no_in_value, no_in_close, no_in_body, for_in_here}
 use Rattle.gv_blocks.proofs.reader.Blocks.for_in.Goals as goal

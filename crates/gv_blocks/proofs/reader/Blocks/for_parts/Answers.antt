@@ -7,7 +7,7 @@ use Rattle.gv_grammar.proofs.Lengths.{less, of_keyword, of_eats, no_more}
 use Rattle.gv_grammar.proofs.Longest.{keyword_here}
 use Rattle.gv_cursor.specs.Reading.{Stopped}
 use Rattle.gv_cursor.proofs.Results.{passed_on_exactly, unexpected_on_exactly}
-use Rattle.gv_blocks.proofs.Lengths.{of_begin, of_may_value, of_may_line}
+use Rattle.gv_grammar.proofs.StmtLengths.{of_begin, of_may_value, of_may_line}
 use Rattle.gv_blocks.proofs.ForStmts.{Begun, Tested, Stepped, no_for_open, no_for_begin, no_for_first, no_for_test, no_for_second, no_for_step, no_for_close, no_for_body, for_here}
 use Rattle.gv_blocks.proofs.reader.Blocks.for_parts.Goals as goal
 

@@ -6,7 +6,7 @@ use Rattle.gv_grammar.proofs.Lengths.{less, of_keyword}
 use Rattle.gv_grammar.proofs.Longest.{keyword_here}
 use Rattle.gv_cursor.specs.Reading.{Stopped}
 use Rattle.gv_cursor.proofs.Results.{passed_on_exactly, unexpected_on_exactly}
-use Rattle.gv_blocks.proofs.Lengths.{of_test, of_body}
+use Rattle.gv_grammar.proofs.StmtLengths.{of_test, of_body}
 use Rattle.gv_blocks.proofs.Bodies.{if_here, if_else_here, no_if_test, no_if_body, no_if_else}
 use Rattle.gv_blocks.proofs.reader.Blocks.if_stmt.Goals as goal
 

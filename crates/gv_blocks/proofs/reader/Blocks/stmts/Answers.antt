@@ -5,7 +5,7 @@ use Rattle.gv_grammar.specs.Stmts.{IsStmt, AreStmts, Separates, ends_stmts}
 use Rattle.gv_grammar.proofs.Lengths.{less}
 use Rattle.gv_cursor.specs.Reading.{Stopped}
 use Rattle.gv_cursor.proofs.Results.{passed_on_exactly}
-use Rattle.gv_blocks.proofs.Lengths.{of_separates, of_stmt}
+use Rattle.gv_grammar.proofs.StmtLengths.{of_separates, of_stmt}
 use Rattle.gv_blocks.proofs.Following.{carried_along, carries_none, carries_separator, carries_end, carries_last, carries_stmt, none_here, none_behind}
 use Rattle.gv_blocks.proofs.reader.Blocks.stmts.Goals as goal
 

@@ -7,7 +7,7 @@ use Rattle.gv_grammar.proofs.Lengths.{less, of_keyword, of_eats}
 use Rattle.gv_grammar.proofs.Longest.{keyword_here}
 use Rattle.gv_cursor.specs.Reading.{Stopped}
 use Rattle.gv_cursor.proofs.Results.{passed_on_exactly, unexpected_on_exactly, refused_on}
-use Rattle.gv_blocks.proofs.Lengths.{of_test}
+use Rattle.gv_grammar.proofs.StmtLengths.{of_test}
 use Rattle.gv_blocks.proofs.SwitchStmts.{switch_here, no_switch_test, no_switch_open, no_switch_cases, switch_goes_on}
 use Rattle.gv_blocks.proofs.reader.Blocks.switch_stmt.Goals as goal
 

@@ -7,7 +7,7 @@ use Rattle.gv_grammar.proofs.Lengths.{less, of_keyword, no_more}
 use Rattle.gv_grammar.proofs.Longest.{keyword_here}
 use Rattle.gv_cursor.specs.Reading.{Stopped}
 use Rattle.gv_cursor.proofs.Results.{passed_on_exactly, unexpected_on_exactly, refused_on}
-use Rattle.gv_blocks.proofs.Lengths.{of_block, of_catches}
+use Rattle.gv_grammar.proofs.StmtLengths.{of_block, of_catches}
 use Rattle.gv_blocks.proofs.Bodies.{refused_here}
 use Rattle.gv_blocks.proofs.TryStmts.{is_so, not_so, no_try_block, no_try_catches, no_try_last, last_goes_on, no_catch_at_all, catches_go_on, try_here, try_finally_here}
 use Rattle.gv_blocks.proofs.reader.Blocks.try_stmt.Goals as goal

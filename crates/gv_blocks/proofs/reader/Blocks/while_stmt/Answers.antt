@@ -6,7 +6,7 @@ use Rattle.gv_grammar.proofs.Lengths.{less, of_keyword}
 use Rattle.gv_grammar.proofs.Longest.{keyword_here}
 use Rattle.gv_cursor.specs.Reading.{Stopped}
 use Rattle.gv_cursor.proofs.Results.{passed_on_exactly, unexpected_on_exactly}
-use Rattle.gv_blocks.proofs.Lengths.{of_test}
+use Rattle.gv_grammar.proofs.StmtLengths.{of_test}
 use Rattle.gv_blocks.proofs.Bodies.{while_here, no_while_test, no_while_body}
 use Rattle.gv_blocks.proofs.reader.Blocks.while_stmt.Goals as goal
 

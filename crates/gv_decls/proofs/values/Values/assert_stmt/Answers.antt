@@ -5,7 +5,7 @@ use Rattle.gv_grammar.specs.Stmts.{IsValue, IsStmt, assert_alone, assert_message
 use Rattle.gv_grammar.proofs.Lengths.{less, of_eats, of_keyword}
 use Rattle.gv_grammar.proofs.Longest.{keyword_here, symbol_eaten}
 use Rattle.gv_cursor.specs.Reading.{Stopped}
-use Rattle.gv_decls.proofs.Lengths.{of_value}
+use Rattle.gv_grammar.proofs.StmtLengths.{of_value}
 use Rattle.gv_decls.proofs.PlainStmts.{no_assert, no_assert_message}
 use Rattle.gv_cursor.proofs.Results.{passed_on_exactly, unexpected_on_exactly}
 use Rattle.gv_decls.proofs.values.Values.assert_stmt.Goals as goal

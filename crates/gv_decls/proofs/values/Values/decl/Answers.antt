@@ -3,7 +3,7 @@ use Rattle.gv_grammar.specs.Stmts.{IsDecl, IsVarType, AreVars}
 use Rattle.gv_grammar.proofs.Lengths.{less, no_more}
 use Rattle.gv_cursor.specs.Reading.{Stopped}
 use Rattle.gv_decls.proofs.Declarations.{final_read, decl_here, no_decl_type, no_decl_vars}
-use Rattle.gv_decls.proofs.Lengths.{of_final, of_var_type}
+use Rattle.gv_grammar.proofs.StmtLengths.{of_final, of_var_type}
 use Rattle.gv_cursor.proofs.Results.{passed_on_exactly}
 use Rattle.gv_decls.proofs.values.Values.decl.Goals as goal
 

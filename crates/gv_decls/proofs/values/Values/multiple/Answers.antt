@@ -8,7 +8,7 @@ use Rattle.gv_grammar.proofs.Lengths.{less, of_eats, of_keyword}
 use Rattle.gv_grammar.proofs.Longest.{keyword_here, symbol_eaten}
 use Rattle.gv_grammar.proofs.Single.{along, keyword_same}
 use Rattle.gv_cursor.specs.Reading.{Stopped}
-use Rattle.gv_decls.proofs.Lengths.{of_name_list}
+use Rattle.gv_grammar.proofs.StmtLengths.{of_name_list}
 use Rattle.gv_decls.proofs.PlainStmts.{no_multiple_names, no_multiple_assign, no_multiple_value}
 use Rattle.gv_cursor.proofs.Results.{passed_on_exactly, unexpected_on_exactly}
 use Rattle.gv_decls.proofs.values.Values.multiple.Goals as goal

@@ -5,7 +5,7 @@ use Rattle.gv_cursor.specs.Reading.{Stopped}
 use Rattle.gv_cursor.proofs.Results.{passed_on_exactly}
 use Rattle.gv_decls.specs.Phrases.{IsName, IsTyped, IsParamAlone}
 use Rattle.gv_decls.proofs.Declarations.{final_read, of_name}
-use Rattle.gv_decls.proofs.Lengths.{of_final, of_typed}
+use Rattle.gv_grammar.proofs.StmtLengths.{of_final, of_typed}
 use Rattle.gv_decls.proofs.ParamPhrases.{param_here, no_param_typed, no_param_name, no_param_initial, no_param_rest}
 use Rattle.gv_decls.proofs.values.Values.param.Goals as goal
 

@@ -5,7 +5,7 @@ use Rattle.gv_grammar.specs.Stmts.{AreParams, no_param, some_params}
 use Rattle.gv_grammar.proofs.Lengths.{less, of_eats}
 use Rattle.gv_cursor.proofs.Results.{passed_on_exactly, unexpected_on_exactly}
 use Rattle.gv_decls.specs.Phrases.{IsParamAlone}
-use Rattle.gv_decls.proofs.Lengths.{of_param}
+use Rattle.gv_grammar.proofs.StmtLengths.{of_param}
 use Rattle.gv_decls.proofs.ParamPhrases.{closing_symbol, some_behind, no_params_param, last_one, one_more, no_params_behind, no_more_params}
 use Rattle.gv_decls.proofs.values.Values.params.Goals as goal
 

@@ -3,7 +3,7 @@ use Rattle.gv_grammar.specs.Stmts.{IsVar, AreVars, last_var, more_vars}
 use Rattle.gv_grammar.proofs.Lengths.{less, of_eats}
 use Rattle.gv_cursor.specs.Reading.{Stopped}
 use Rattle.gv_decls.proofs.Declarations.{no_comma_there, no_vars_var, no_more_vars}
-use Rattle.gv_decls.proofs.Lengths.{of_var}
+use Rattle.gv_grammar.proofs.StmtLengths.{of_var}
 use Rattle.gv_cursor.proofs.Results.{passed_on_exactly}
 use Rattle.gv_decls.proofs.values.Values.vars.Goals as goal
 

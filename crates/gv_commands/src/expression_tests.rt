@@ -1,7 +1,8 @@
-//! Texts, and how much of each is the longest expression; one tree.
+//! Texts, and how much of each is the longest expression that gv_exprs reads; one tree. They stand here, since the tests of a
+//! crate prove it once more.
 
-use crate::{ParseError, parse_expr};
 use gv_base::{Names, OutOfMemory};
+use gv_exprs::{ParseError, parse_expr};
 use gv_lex::{LexError, Token, lex};
 use std::alloc::Global;
 use std::fmt::Write;
