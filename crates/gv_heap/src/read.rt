@@ -1,4 +1,4 @@
-ghost use Rattle.std.specs.Prelude.{◌≡◌, ◌<◌, length, slice_get, Some};
+ghost use Rattle.std.specs.Prelude.{◌≡◌, ◌<◌, length, option_copied, slice_get, Some};
 ghost use Rattle.gv_heap.specs.declared.object.Object.TheVariants.{Text as TextObject, GString as GStringObject, Closure as ClosureObject, Instance as InstanceObject};
 
 use crate::closure::Closure;
@@ -17,6 +17,13 @@ impl Heap {
         ensures { object_at self.now id ≡ Some result.now }
     {
         &self.objects[id]
+    }
+
+    /// The object of a number, if it is there.
+    pub fn get(&self, id: ObjId) -> Option<&Object>
+        ensures { option_copied result ≡ object_at self.now id }
+    {
+        self.objects.get(id)
     }
 
     /// The elements of a list.
@@ -83,6 +90,13 @@ impl Heap {
             Object::Instance(instance) => instance,
             _ => unreachable!(),
         }
+    }
+
+    /// The value at a place, if it is there.
+    pub fn get_place(&self, place: PlaceId) -> Option<Value>
+        ensures { result ≡ slice_get self.now.places place }
+    {
+        self.places.get(place).copied()
     }
 
     /// The value of a variable.

@@ -70,12 +70,13 @@ impl Heap {
         }
     }
 
-    /// Writes a variable.
+    /// Writes a variable; nothing, where its place isn't there.
     pub fn set_place(&mut self, place: PlaceId, value: Value)
-        requires { place < length self.old.places }
         ensures { self.new ≡ record self.old { places = slice_set self.old.places place value } }
     {
-        self.places[place] = value;
+        if place < self.places.len() {
+            self.places[place] = value;
+        }
     }
 
     /// Writes a closure's delegate.

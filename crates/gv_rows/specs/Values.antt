@@ -49,19 +49,10 @@ class_of heap (Obj id) = object_class (object_at heap id)
 abbrev pub class_text : List (List ℕ) → List Declared → ℕ → List ℕ
 class_text names classes c = option_map_or (λ d. text_of names d.name) (slice_get classes c) []
 
--- the object of a value is there
-abbrev pub IsIn : HeapState → Value → Type 0
-IsIn heap (Obj id) = id < length heap.objects
-IsIn heap value = Unit {0}
-
--- so is its class
+-- the object of a value is there, and its class
 abbrev pub IsThere : List Declared → HeapState → Value → Type 0
 IsThere classes heap (Obj id) = (id < length heap.objects) × (object_class (object_at heap id) < length classes)
 IsThere classes heap value = Unit {0}
-
--- the table has the classes' names
-abbrev pub AreNamed : List (List ℕ) → List Declared → Type 0
-AreNamed names classes = (c : ℕ) (d : Declared) → slice_get classes c ≡ Some d → d.name < length names
 
 -- ---- keys of maps
 

@@ -1,16 +1,15 @@
-ghost use Rattle.std.specs.Prelude.{◌≡◌, ◌<◌, length, Some};
+ghost use Rattle.std.specs.Prelude.{◌≡◌, Some};
 ghost use Rattle.gv_rows.specs.Values as spec;
 
 use gv_base::{ClassId, MetaObject, NULL_KIND, Names, Value};
 use gv_classes::{
     BOOLEAN, CLASS, CLOSURE, Classes, ENTRY, GSTRING, INTEGER, LIST, LONG, MAP, META_CLASS,
-    META_MEMBER, META_METHOD, RANGE, STRING,
+    META_MEMBER, META_METHOD, OBJECT, RANGE, STRING,
 };
 use gv_heap::{Heap, Object};
 
 /// The class of a value; null has `NULL_KIND`.
 pub fn class_of(heap: &Heap, value: Value) -> ClassId
-    requires { spec.IsIn heap.now value }
     ensures { result ≡ spec.class_of heap.now value }
 {
     match value {
@@ -19,7 +18,10 @@ pub fn class_of(heap: &Heap, value: Value) -> ClassId
         Value::Int(_) => INTEGER,
         Value::Long(_) => LONG,
         Value::Class(_) => CLASS,
-        Value::Obj(id) => object_class(heap.at(id)),
+        Value::Obj(id) => match heap.get(id) {
+            Some(object) => object_class(object),
+            None => OBJECT,
+        },
     }
 }
 
@@ -49,11 +51,13 @@ fn meta_class(meta: MetaObject) -> ClassId
     }
 }
 
-/// The name of a class.
+/// The name of a class; none for a class that isn't there.
 pub fn class_name<'a>(names: &'a Names, classes: &Classes, class: ClassId) -> &'a str
-    requires there { class < length classes.now }
-    requires named { spec.AreNamed names.now classes.now }
     ensures { result.now ≡ spec.class_text names.now classes.now class }
 {
-    names.text(classes.get(class).name)
+    if class < classes.len() {
+        names.text(classes.get(class).name)
+    } else {
+        ""
+    }
 }
