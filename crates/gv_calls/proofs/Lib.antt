@@ -1,0 +1,3 @@
+mod Arity
+mod Commas
+mod Steps

@@ -1,0 +1,4 @@
+pub mod Cells
+pub mod Left
+pub mod Picks
+pub mod Limit
