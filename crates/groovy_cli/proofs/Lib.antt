@@ -1,4 +1,2 @@
-pub mod Lines
 pub mod Promises
-pub mod Running
-pub mod Weights
+pub mod Saying

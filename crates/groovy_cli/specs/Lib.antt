@@ -1,5 +1,3 @@
-pub mod Answers
-pub mod Code
 pub mod Program
-pub mod Sums
+pub mod Answers
 pub mod Top

@@ -1,27 +1,58 @@
 -- What the program is to write and answer, for its words and the files' contents.
-use Rattle.std.specs.Prelude.{◌≡◌, ℕ, ◌==◌, ◌<◌, ◌≤◌, slice_index, All, List, [], ◌∷◌, map, flat_map, length, codes, Option, Some, None, Result, Ok, Err, if◌then◌else◌}
+use Rattle.std.specs.Prelude.{◌≡◌, ℕ, ◌==◌, ◌<◌, ◌≤◌, All, List, [], ◌∷◌, ◌++◌, map, flat_map, length, codes, slice_get, Option, Some, None, Result, Ok, Err, option_map, unwrap_or, if◌then◌else◌}
 use Rattle.std.specs.Fmt.{decimal}
-use Rattle.gv_base.specs.Names.{name_of}
+use Rattle.std.specs.List.{list_any}
 use Rattle.gv_base.specs.Refusal.{number_of, text_of}
+use Rattle.gv_base.specs.declared.limits.Limits.{Limits}
 use Rattle.gv_base.specs.declared.refusal.Refusal.{Refusal}
 use Rattle.gv_base.specs.declared.refusal.RefusalKind.TheVariants.{NotBuilt}
+use Rattle.gv_classes.specs.BuiltIn.{rows, built_in_class, with_texts}
+use Rattle.gv_core.specs.declared.stmt.Source.{Source}
 use Rattle.gv_lex.specs.Lexing.{lexed}
 use Rattle.gv_lex.specs.Places.{file_start}
 use Rattle.gv_lex.specs.Tokens.{told, IsNamed}
 use Rattle.gv_lex.specs.declared.token.Token.{Token}
+use Rattle.gv_lex.specs.declared.token.TokenKind.{TokenKind}
+use Rattle.gv_lex.specs.declared.token.TokenKind.TheVariants as kind
 use Rattle.gv_tree.specs.declared.top.Script.{Script}
 use Rattle.gv_exprs.specs.declared.parse.ParseError.TheVariants.{Refused}
 use Rattle.gv_stmts.specs.Parsed.{Parses}
+use Rattle.gv_meaning.specs.Meaning.{meaning}
+use Rattle.gv_meaning.specs.Opening.{opened_world}
+use Rattle.gv_meaning.specs.declared.world.Why.{Why}
+use Rattle.gv_meaning.specs.declared.world.Why.TheVariants.{Ticks, Cells, Depth}
+use Rattle.gv_meaning.specs.declared.world.World.{World}
+use Rattle.gv_scopes.specs.Core.{unit_of}
+use Rattle.gv_scopes.specs.Known.{AreKnown, with_known}
+use Rattle.gv_scopes.specs.declared.known.Known.{Known}
+use Rattle.gv_simulate.specs.Report.{report_of}
+use Rattle.gv_simulate.specs.declared.report.Ending.{Ending}
+use Rattle.gv_simulate.specs.declared.report.Ending.TheVariants.{Value, Uncaught, Stopped}
+use Rattle.gv_simulate.specs.declared.report.Report.{Report}
+use Rattle.gv_words.specs.Words.{reading_of}
+use Rattle.gv_words.specs.declared.words.Reading.{Reading}
 use Rattle.gv_outside.specs.Files.{Contents, content_of}
 use Rattle.gv_outside.specs.declared.files.TheConstants.{MOST_BYTES}
-use Rattle.groovy_cli.specs.Sums.{printed}
 
 -- ---- the words
 
--- the file of the words: exactly one word, which doesn't begin with `-`
+-- the word of a place
+abbrev pub word_at : List (List ℕ) → ℕ → List ℕ
+word_at words place = unwrap_or (slice_get words place) []
+
+-- what the words ask for: a file, and what its run may spend
+pub record Request : Type 0 where
+  pub file : List ℕ
+  pub limits : Limits
+
+abbrev pub request_in : List (List ℕ) → Reading → Request
+request_in words reading = record { file = word_at words reading.file; limits = reading.limits }
+
+abbrev pub request_of : List (List ℕ) → Option Request
+request_of words = option_map (request_in words) (reading_of words)
+
 abbrev pub file_of : List (List ℕ) → Option (List ℕ)
-file_of (word ∷ []) = if slice_index word 0 == 45 then None else Some word
-file_of words = None
+file_of words = option_map (λ request. request.file) (request_of words)
 
 -- ---- the script
 
@@ -29,20 +60,35 @@ file_of words = None
 abbrev pub not_built : Refusal
 not_built = record { kind = NotBuilt; place = file_start 0 }
 
-abbrev pub or_not_built : Option (List ℕ) → Result (List ℕ) Refusal
-or_not_built None = Err not_built
-or_not_built (Some text) = Ok text
-
 -- a file's tokens, by a table of their names
 pub record Lexes (bytes : List ℕ) (names : List (List ℕ)) (tokens : List Token) : Type 0 where
   pub spelled : lexed 0 bytes ≡ Ok (map (told names) tokens)
   pub named : All (IsNamed names) tokens
 
--- what a file's bytes say: a refusal of them, or what their script prints
-pub data Says (bytes : List ℕ) : Result (List ℕ) Refusal → Type 0 where
-  no_tokens : {r : Refusal} → lexed 0 bytes ≡ Err r → Says bytes (Err r)
-  no_tree : {names : List (List ℕ)} {tokens : List Token} {r : Refusal} → Lexes bytes names tokens → Parses (Err (Refused r)) tokens → Says bytes (Err r)
-  a_tree : {names : List (List ℕ)} {tokens : List Token} {s : Script} → Lexes bytes names tokens → Parses (Ok s) tokens → Says bytes (or_not_built (printed (name_of names (codes "println")) s.tops))
+-- the names of the texts of strings, each once
+abbrev pub with_text : List ℕ → TokenKind → List ℕ
+with_text texts (kind.Text piece name) = if list_any (λ text. name == text) texts then texts else texts ++ name ∷ []
+with_text texts token = texts
+
+abbrev pub texts_behind : List ℕ → List Token → List ℕ
+texts_behind texts [] = texts
+texts_behind texts (t ∷ ts) = texts_behind (with_text texts t.kind) ts
+
+-- the world in which a script's run begins: it knows the built-in classes, and the script's strings
+abbrev pub first_world : List (List ℕ) → List ℕ → Limits → World
+first_world names texts limits = let all = with_texts names rows in opened_world all (map (built_in_class all) rows) texts limits
+
+-- what a script's bodies come to, or that the script has none
+abbrev pub said_of : Limits → List (List ℕ) → List ℕ → Option (List Source) → Result Report Refusal
+said_of limits names texts None = Err not_built
+said_of limits names texts (Some unit) = Ok (report_of (meaning unit (first_world names texts limits)))
+
+-- what a file's bytes say: a refusal of them, or what their script does within the limits
+pub data Says (limits : Limits) (bytes : List ℕ) : Result Report Refusal → Type 0 where
+  no_tokens : {r : Refusal} → lexed 0 bytes ≡ Err r → Says limits bytes (Err r)
+  no_tree : {names : List (List ℕ)} {tokens : List Token} {r : Refusal} → Lexes bytes names tokens → Parses (Err (Refused r)) tokens → Says limits bytes (Err r)
+  a_tree : {names : List (List ℕ)} {tokens : List Token} {s : Script} {known : Known} → Lexes bytes names tokens → Parses (Ok s) tokens → AreKnown (with_known names) known
+      → Says limits bytes (said_of limits (with_known names) (texts_behind [] tokens) (unit_of known s))
 
 -- ---- the lines of `err`
 
@@ -93,22 +139,40 @@ too_long_outcome file = record { output = []; line = too_long_line file; status 
 abbrev pub refused_outcome : List ℕ → Refusal → Outcome
 refused_outcome file refusal = record { output = []; line = refusal_line file refusal; status = 2 }
 
-abbrev pub printed_outcome : List ℕ → Outcome
-printed_outcome output = record { output = output; line = []; status = 0 }
+abbrev pub stopped_line : Why → List ℕ
+stopped_line Ticks = codes "Stopped: ticks\n"
+stopped_line Cells = codes "Stopped: cells\n"
+stopped_line Depth = codes "Stopped: depth\n"
 
-abbrev pub script_outcome : List ℕ → Result (List ℕ) Refusal → Outcome
-script_outcome file (Ok output) = printed_outcome output
+-- the line that tells how a run ended, and its status
+abbrev pub ending_line : Ending → List ℕ
+ending_line Value = []
+ending_line (Uncaught text) = about_line (codes "Caught: ") text
+ending_line (Stopped why) = stopped_line why
+
+abbrev pub ending_status : Ending → ℕ
+ending_status Value = 0
+ending_status (Uncaught text) = 1
+ending_status (Stopped Ticks) = 3
+ending_status (Stopped Cells) = 4
+ending_status (Stopped Depth) = 5
+
+abbrev pub ran_outcome : Report → Outcome
+ran_outcome report = record { output = report.output; line = ending_line report.ending; status = ending_status report.ending }
+
+abbrev pub script_outcome : List ℕ → Result Report Refusal → Outcome
+script_outcome file (Ok report) = ran_outcome report
 script_outcome file (Err refusal) = refused_outcome file refusal
 
 -- what is written of a file, and the status
-pub data IsFileOutcome (file bytes : List ℕ) : Outcome → Type 0 where
-  too_long : MOST_BYTES < length bytes → IsFileOutcome file bytes (too_long_outcome file)
-  a_script : {script : Result (List ℕ) Refusal} → length bytes ≤ MOST_BYTES → Says bytes script → IsFileOutcome file bytes (script_outcome file script)
+pub data IsFileOutcome (request : Request) (bytes : List ℕ) : Outcome → Type 0 where
+  too_long : MOST_BYTES < length bytes → IsFileOutcome request bytes (too_long_outcome request.file)
+  a_script : {script : Result Report Refusal} → length bytes ≤ MOST_BYTES → Says request.limits bytes script → IsFileOutcome request bytes (script_outcome request.file script)
 
-abbrev pub IsOutcomeOf : Option (List ℕ) → Contents → Outcome → Type 0
+abbrev pub IsOutcomeOf : Option Request → Contents → Outcome → Type 0
 IsOutcomeOf None contents outcome = outcome ≡ usage_outcome
-IsOutcomeOf (Some file) contents outcome = IsFileOutcome file (content_of contents file) outcome
+IsOutcomeOf (Some request) contents outcome = IsFileOutcome request (content_of contents request.file) outcome
 
 -- the program meaning: an outcome of the words and the files' contents
 abbrev pub IsOutcome : List (List ℕ) → Contents → Outcome → Type 0
-IsOutcome words contents outcome = IsOutcomeOf (file_of words) contents outcome
+IsOutcome words contents outcome = IsOutcomeOf (request_of words) contents outcome

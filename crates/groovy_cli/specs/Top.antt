@@ -5,7 +5,8 @@ use Rattle.gv_outside.specs.Count.{HasRisen, IsSteady}
 use Rattle.gv_outside.specs.Files.{Contents, FilesState, content_of}
 use Rattle.gv_outside.specs.Sink.{SinkState, Takes, TakesPrefix}
 use Rattle.gv_outside.specs.declared.files.TheConstants.{MOST_BYTES}
-use Rattle.groovy_cli.specs.Program.{Outcome, file_of, Says, IsOutcome, usage_outcome, too_long_outcome, unread_outcome, unwritten_line}
+use Rattle.groovy_cli.specs.Program.{Outcome, request_of, file_of, Says, IsOutcome, ending_status, usage_outcome, too_long_outcome, unread_outcome, unwritten_line}
+use Rattle.gv_simulate.specs.declared.report.Report.{Report}
 
 -- ---- the outside
 
@@ -76,16 +77,26 @@ abbrev pub Means : List (List ℕ) → Outside → Outside → ℕ → Type 0
 Means words before after status = (contents : Contents) → before.files.contents ≡ Some contents → IsSound before after
     → (status ≡ 71) ⊎ ((outcome : Outcome) × IsOutcome words contents outcome × (status ≡ outcome.status) × IsWritten outcome before.sinks after.sinks)
 
+-- the statuses of a run
+abbrev pub IsRunStatus : ℕ → Type 0
+IsRunStatus status = (status ≡ 0) ⊎ ((status ≡ 1) ⊎ ((status ≡ 3) ⊎ ((status ≡ 4) ⊎ (status ≡ 5))))
+
 -- where nothing failed, the status is one of these, whatever is told
 abbrev pub IsComplete : Outside → Outside → ℕ → Type 0
-IsComplete before after status = IsSound before after → (status ≡ 71) ⊎ ((status ≡ 64) ⊎ ((status ≡ 65) ⊎ ((status ≡ 0) ⊎ (status ≡ 2))))
+IsComplete before after status = IsSound before after → (status ≡ 71) ⊎ ((status ≡ 64) ⊎ ((status ≡ 65) ⊎ ((status ≡ 2) ⊎ IsRunStatus status)))
 
--- 2 where the script that the files tell is refused, and always where nothing that it says is printed, but for want of memory
+-- 0, 1, 3, 4 and 5 only where the script that the files tell runs, and then by how its run ends
+pub record HasRun (words : List (List ℕ)) (before after : Outside) (status : ℕ) : Type 0 where
+  pub cause : IsRunStatus status → (contents : Contents) → before.files.contents ≡ Some contents
+      → IfSome (request_of words) (λ request. (report : Report) × Says request.limits (content_of contents request.file) (Ok report) × (status ≡ ending_status report.ending))
+
+-- 2 where the script that the files tell is refused, and always where it doesn't run, but for want of memory
 pub record IsRefused (words : List (List ℕ)) (before after : Outside) (status : ℕ) : Type 0 where
   pub cause : status ≡ 2 → (contents : Contents) → before.files.contents ≡ Some contents
-      → IfSome (file_of words) (λ file. (r : Refusal) × Says (content_of contents file) (Err r))
+      → IfSome (request_of words) (λ request. (r : Refusal) × Says request.limits (content_of contents request.file) (Err r))
   pub always : IsSound before after → (contents : Contents) → before.files.contents ≡ Some contents
-      → IfSome (file_of words) (λ file. length (content_of contents file) ≤ MOST_BYTES → ((text : List ℕ) → Says (content_of contents file) (Ok text) → ⊥) → (status ≡ 2) ⊎ (status ≡ 71))
+      → IfSome (request_of words) (λ request. length (content_of contents request.file) ≤ MOST_BYTES
+      → ((report : Report) → Says request.limits (content_of contents request.file) (Ok report) → ⊥) → (status ≡ 2) ⊎ (status ≡ 71))
 
 -- 64 exactly where the words have no reading
 pub record IsUsage (words : List (List ℕ)) (before after : Outside) (status : ℕ) : Type 0 where

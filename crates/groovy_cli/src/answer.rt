@@ -1,13 +1,21 @@
 ghost use Rattle.std.specs.Prelude.{◌≡◌, ◌≤◌, length, IfOk, OnErr};
+ghost use Rattle.gv_meaning.specs.Meaning.{meaning};
+ghost use Rattle.gv_simulate.specs.Report.{report_of};
 ghost use Rattle.groovy_cli.specs.Answers.{Answers, Stands};
-ghost use Rattle.groovy_cli.specs.Program.{not_built};
+ghost use Rattle.groovy_cli.specs.Program.{first_world, not_built};
 
-use crate::compile::compile;
-use gv_base::{Names, OutOfMemory, Place, Refusal, RefusalKind};
+use crate::texts::texts_of;
+use gv_base::{Limits, Name, Names, OutOfMemory, Place, Refusal, RefusalKind};
+use gv_classes::Classes;
+use gv_core::Source;
 use gv_lex::{LexError, lex};
-use gv_machine::run_small;
+use gv_meaning::opening;
 use gv_outside::{Files, MOST_BYTES, ReadError, read_whole};
+use gv_scopes::{Known, resolve};
+use gv_simulate::{Report, run_unit};
 use gv_stmts::{ParseError, parse};
+use indexmap::IndexSet;
+use sqlite_items::Items;
 use std::alloc::Global;
 
 /// What the program has to say of its words and its file.
@@ -21,13 +29,18 @@ pub enum Answer {
     TooLong,
     /// The script's first refusal.
     Refused(Refusal),
-    /// What the script printed.
-    Printed(Vec<u8>),
+    /// What the script printed, and how its run ended.
+    Ran(Report),
 }
 
-/// Reads a file whole, and then runs its script.
-pub fn answer_to<F: Files>(alloc: Global, file: &str, files: &mut F) -> Result<Answer, OutOfMemory>
-    ensures stands { IfOk result (Stands file.now (F.state files.old) (F.state files.new)) }
+/// Reads a file whole, and then runs its script within the limits.
+pub fn answer_to<F: Files>(
+    alloc: Global,
+    file: &str,
+    limits: Limits,
+    files: &mut F,
+) -> Result<Answer, OutOfMemory>
+    ensures stands { IfOk result (Stands (record { file = file.now; limits = limits }) (F.state files.old) (F.state files.new)) }
     ensures err { OnErr result ((F.state files.new).faults ≡ (F.state files.old).faults) }
     ensures contents { (F.state files.new).contents ≡ (F.state files.old).contents }
 {
@@ -37,13 +50,13 @@ pub fn answer_to<F: Files>(alloc: Global, file: &str, files: &mut F) -> Result<A
         Err(ReadError::TooLong) => return Ok(Answer::TooLong),
         Err(ReadError::OutOfMemory) => return Err(OutOfMemory),
     };
-    script_answer(alloc, bytes.as_slice())
+    script_answer(alloc, bytes.as_slice(), limits)
 }
 
-/// The script's first refusal, or what it prints.
-fn script_answer(alloc: Global, script: &[u8]) -> Result<Answer, OutOfMemory>
+/// The script's first refusal, or what its run gives.
+fn script_answer(alloc: Global, script: &[u8], limits: Limits) -> Result<Answer, OutOfMemory>
     requires { length script.now ≤ MOST_BYTES }
-    ensures { IfOk result (Answers script.now) }
+    ensures { IfOk result (Answers limits script.now) }
 {
     let mut names = Names::new(alloc);
     let tokens = match lex(alloc, 0, script, &mut names) {
@@ -56,10 +69,29 @@ fn script_answer(alloc: Global, script: &[u8]) -> Result<Answer, OutOfMemory>
         Err(ParseError::Refused(refusal)) => return Ok(Answer::Refused(refusal)),
         Err(ParseError::OutOfMemory) => return Err(OutOfMemory),
     };
-    match compile(alloc, &names, &tree)? {
-        Some(code) => Ok(Answer::Printed(run_small(alloc, code.as_slice())?)),
-        None => Ok(Answer::Refused(form_refusal())),
-    }
+    let known = Known::new(&mut names)?;
+    let unit = match resolve(alloc, known, &tree)? {
+        Some(unit) => unit,
+        None => return Ok(Answer::Refused(form_refusal())),
+    };
+    let texts = texts_of(alloc, tokens.as_slice())?;
+    let report = run_first(alloc, &mut names, &texts, &unit, limits)?;
+    Ok(Answer::Ran(report))
+}
+
+/// What bodies print, and how their run ends, in the world in which a script's run begins.
+fn run_first(
+    alloc: Global,
+    names: &mut Names,
+    texts: &IndexSet<Name>,
+    unit: &Items<Source>,
+    limits: Limits,
+) -> Result<Report, OutOfMemory>
+    ensures { IfOk result (λ report. report ≡ report_of (meaning unit.now (first_world names.old texts.now.keys limits))) }
+{
+    let classes = Classes::new(alloc, names)?;
+    let world = opening(alloc, names, classes, texts.as_slice(), limits)?;
+    run_unit(alloc, unit.as_slice(), world)
 }
 
 /// The refusal of a script of a form that isn't built yet.

@@ -1,29 +1,25 @@
 //! The program: it runs the script of the file that its words name.
 //!
-//! How it is stated: `specs/Program.antt` says which outcome the words and the files' contents have: the
-//! bytes for `out`, those for `err`, and the status. A script is what its tokens spell, by the grammar
-//! of gv_grammar; `specs/Sums.antt` says what its tree means. Neither speaks of code or a machine.
-//! `specs/Top.antt` has the promises of the top call over what is told of files and sinks before and
-//! after it: when each status comes, and what is written with it.
+//! How it is stated: `specs/Program.antt` says which outcome the words and the files' contents have: the bytes for `out`, those for
+//! `err`, and the status. What the words ask for is gv_words' `reading_of`. A script is what its tokens spell, by the grammar of
+//! gv_grammar; its core tree is gv_scopes' `unit_of`, and what that means is gv_meaning's `meaning`. None of them speaks of code or a
+//! machine. `specs/Top.antt` has the promises of the top call over what is told of files and sinks before and after it: when each
+//! status comes, and what is written with it.
 //!
-//! The promise: where nothing fails, nothing but memory is wanting, and files and sinks tell what
-//! they hold, `groovy` writes the bytes of the program meaning and answers its status; and each other
-//! answer has its cause.
+//! The promise: where nothing fails, nothing but memory is wanting, and files and sinks tell what they hold, `groovy` writes the bytes
+//! of the program meaning and answers its status; and each other answer has its cause.
 //!
-//! Where to begin: `top.rt`, then `answer.rt` and `report.rt`, which it joins. `compile.rt` writes
-//! the code of a script's sums; `specs/Code.antt` says what a piece of code does, and
-//! `proofs/Running.antt` and `Lines.antt` show that this code does what the sums mean.
+//! Where to begin: `top.rt`, then `answer.rt` and `report.rt`, which it joins.
 #![tactic(auto)]
 
 ghost use Rattle.std.specs.Prelude.{◌≡◌, ◌<◌};
 
 mod answer;
-mod compile;
 mod report;
 #[cfg(test)]
 mod tests;
+mod texts;
 mod top;
-mod words;
 
 use gv_base::Steps;
 use gv_outside::{HostFiles, HostSink};

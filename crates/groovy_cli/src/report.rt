@@ -2,12 +2,14 @@ ghost use Rattle.std.specs.Prelude.{◌≡◌, ℕ, List, OnOk, OnErr};
 ghost use Rattle.gv_outside.specs.Count.{HasCause};
 ghost use Rattle.gv_outside.specs.Sink.{Takes, TakesPrefix};
 ghost use Rattle.groovy_cli.specs.Answers.{outcome};
-ghost use Rattle.groovy_cli.specs.Program.{about_line, parts_line, refusal_line};
+ghost use Rattle.groovy_cli.specs.Program.{about_line, ending_line, ending_status, parts_line, refusal_line, stopped_line};
 ghost use Rattle.groovy_cli.specs.Top.{Given};
 
 use crate::answer::Answer;
 use gv_base::Refusal;
+use gv_meaning::Why;
 use gv_outside::{Failed, Sink, put_all, put_pieces};
+use gv_simulate::Ending;
 use itoa::Buffer;
 
 /// The status where a sink failed.
@@ -34,7 +36,7 @@ fn output(answer: &Answer) -> &[u8]
     ensures { (file : List ℕ) → result.now ≡ (outcome file answer.now).output }
 {
     match answer {
-        Answer::Printed(bytes) => bytes.as_slice(),
+        Answer::Ran(report) => report.output.as_slice(),
         _ => &[],
     }
 }
@@ -47,7 +49,20 @@ fn status(answer: &Answer) -> u8
         Answer::Unread => 66,
         Answer::TooLong => 65,
         Answer::Refused(_) => 2,
-        Answer::Printed(_) => 0,
+        Answer::Ran(report) => ending_status(&report.ending),
+    }
+}
+
+/// The status that tells how a run ended.
+fn ending_status(ending: &Ending) -> u8
+    ensures { result ≡ ending_status ending.now }
+{
+    match ending {
+        Ending::Value => 0,
+        Ending::Uncaught(_) => 1,
+        Ending::Stopped(Why::Ticks) => 3,
+        Ending::Stopped(Why::Cells) => 4,
+        Ending::Stopped(Why::Depth) => 5,
     }
 }
 
@@ -62,7 +77,30 @@ fn put_line<E: Sink>(file: &str, answer: &Answer, err: &mut E) -> Result<(), Fai
         Answer::Unread => put_about(b"groovy: cannot read: ", file, err),
         Answer::TooLong => put_about(b"groovy: file too long: ", file, err),
         Answer::Refused(refusal) => put_refusal(file, *refusal, err),
-        Answer::Printed(_) => put_all(err, b""),
+        Answer::Ran(report) => put_ending(&report.ending, err),
+    }
+}
+
+/// Puts the line that tells how a run ended; nothing, where it ended with a value.
+fn put_ending<E: Sink>(ending: &Ending, err: &mut E) -> Result<(), Failed>
+    ensures ok { OnOk result (Takes (E.state err.old) (ending_line ending.now) (E.state err.new)) }
+    ensures err { OnErr result (TakesPrefix (E.state err.old) (ending_line ending.now) (E.state err.new)) }
+    ensures cause { HasCause (E.state err.old).faults (E.state err.new).faults result }
+{
+    match ending {
+        Ending::Value => put_all(err, b""),
+        Ending::Uncaught(text) => put_about(b"Caught: ", text.as_str(), err),
+        Ending::Stopped(why) => put_all(err, stopped_line(*why)),
+    }
+}
+
+fn stopped_line(why: Why) -> &'static [u8]
+    ensures { result.now ≡ stopped_line why }
+{
+    match why {
+        Why::Ticks => b"Stopped: ticks\n",
+        Why::Cells => b"Stopped: cells\n",
+        Why::Depth => b"Stopped: depth\n",
     }
 }
 

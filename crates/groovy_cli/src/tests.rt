@@ -151,7 +151,31 @@ fn scripts_print_their_sums(rt: HostRuntime) -> Result<(), Fail> {
             "",
             0,
         ),
-        ("println 'a${1}'", "", not_built, 2),
+        ("println 'a${1}'", "a${1}\n", "", 0),
+        ("def n = 3\nn = n + 4\nprintln n * n", "49\n", "", 0),
+        ("def n = 3; def n = 4", "", not_built, 2),
+        ("n = 3", "", not_built, 2),
+        ("if (true) { def n = 1 }\nprintln n", "", not_built, 2),
+        ("def println = 1\nprintln 2", "", not_built, 2),
+        (
+            "if (1 < 2) { println 'a' } else { println 'b' }",
+            "a\n",
+            "",
+            0,
+        ),
+        (
+            "def n = 2\nif (n != 2) println 'a'\nelse if (n >= 3) println 'b'\nelse { def m = n * 3L; println m }",
+            "6\n",
+            "",
+            0,
+        ),
+        (
+            "def n = 9\nwhile (n > 0) { n -= 2; if (n == 5) continue; if (n <= 1) break; println n }\nprintln n",
+            "7\n3\n1\n",
+            "",
+            0,
+        ),
+        ("break", "", not_built, 2),
         ("println \"a${1} $b.c\"", "", not_built, 2),
         (
             "println 09 + #",
@@ -174,6 +198,31 @@ fn scripts_print_their_sums(rt: HostRuntime) -> Result<(), Fail> {
     ];
     for (script, output, line, status) in table {
         let ran = run::<Brand>(rt.alloc(), &["a.groovy"], script.as_bytes(), Blank::new(1))?;
+        assert_eq!(rt; ran.status, status, "{script}");
+        assert_eq!(rt; ran.output.as_slice(), output.as_bytes(), "{script}");
+        assert_eq!(rt; ran.line.as_slice(), line.as_bytes(), "{script}");
+    }
+    Ok(())
+}
+
+// A turn, a test, a text and a sum take a tick each.
+#[test]
+fn ticks_are_spent(rt: HostRuntime) -> Result<(), Fail> {
+    let counted = "def n = 3\nwhile (n > 0) { println n; n = n - 1 }";
+    let endless = "while (true) { println 'x' }";
+    let table = [
+        ("14", counted, "3\n2\n1\n", "", 0),
+        ("13", counted, "3\n2\n1\n", "Stopped: ticks\n", 3),
+        ("5", counted, "3\n", "Stopped: ticks\n", 3),
+        ("5", endless, "x\nx\n", "Stopped: ticks\n", 3),
+        ("1", endless, "", "Stopped: ticks\n", 3),
+        ("1", "println 1", "1\n", "", 0),
+        ("0", "println 1", "", USAGE, 64),
+        ("1000000000001", "println 1", "", USAGE, 64),
+    ];
+    for (ticks, script, output, line, status) in table {
+        let words = ["--ticks", ticks, "a.groovy"];
+        let ran = run::<Brand>(rt.alloc(), &words, script.as_bytes(), Blank::new(1))?;
         assert_eq!(rt; ran.status, status, "{script}");
         assert_eq!(rt; ran.output.as_slice(), output.as_bytes(), "{script}");
         assert_eq!(rt; ran.line.as_slice(), line.as_bytes(), "{script}");

@@ -1,11 +1,12 @@
 ghost use Rattle.std.specs.Prelude.{◌≡◌, map, string_bytes};
-ghost use Rattle.groovy_cli.specs.Top.{outside, Means, IsComplete, IsRefused, IsUsage, IsTooLong, IsUnread, IsUnwritten, IsWanting, IsKept};
+ghost use Rattle.groovy_cli.specs.Program.{word_at};
+ghost use Rattle.groovy_cli.specs.Top.{outside, Means, IsComplete, HasRun, IsRefused, IsUsage, IsTooLong, IsUnread, IsUnwritten, IsWanting, IsKept};
 
 use crate::answer::{Answer, answer_to};
 use crate::report::give;
-use crate::words::file_word;
 use gv_base::Steps;
 use gv_outside::{Files, Sink};
+use gv_words::read_words;
 use std::alloc::Global;
 use std::sync::ledger::Ledger;
 
@@ -31,6 +32,9 @@ pub fn groovy<F: Files, O: Sink, E: Sink, L: Ledger>(
     ensures complete { IsComplete
         (outside (F.state files.old) (O.state out.old) (E.state err.old))
         (outside (F.state files.new) (O.state out.new) (E.state err.new)) result }
+    ensures run { HasRun (map string_bytes words.now)
+        (outside (F.state files.old) (O.state out.old) (E.state err.old))
+        (outside (F.state files.new) (O.state out.new) (E.state err.new)) result }
     ensures refused { IsRefused (map string_bytes words.now)
         (outside (F.state files.old) (O.state out.old) (E.state err.old))
         (outside (F.state files.new) (O.state out.new) (E.state err.new)) result }
@@ -54,11 +58,22 @@ pub fn groovy<F: Files, O: Sink, E: Sink, L: Ledger>(
         (outside (F.state files.new) (O.state out.new) (E.state err.new)) }
     ensures looks { looks.new ≡ looks.old }
 {
-    let Some(file) = file_word(words) else {
+    let Some(reading) = read_words(words) else {
         return give("", &Answer::Usage, out, err);
     };
-    match answer_to(alloc, file, files) {
+    let file = word(words, reading.file);
+    match answer_to(alloc, file, reading.limits, files) {
         Ok(answer) => give(file, &answer, out, err),
         Err(_) => WANT_OF_MEMORY,
+    }
+}
+
+/// The word of a place.
+fn word(words: &[String], place: usize) -> &str
+    ensures { result.now ≡ word_at (map string_bytes words.now) place }
+{
+    match words.get(place) {
+        Some(word) => word.as_str(),
+        None => "",
     }
 }

@@ -1,28 +1,24 @@
-//! The machine that runs code: it takes a list of instructions and gives the bytes that they
-//! print.
+//! The machine that runs the code of a unit in a world: it goes on to the end, tells how the run ended, and keeps what was printed
+//! until that is dropped.
 //!
-//! How it is stated: code is a list of instructions, and `output_of` in `specs/Small.antt` says
-//! what a list of them prints, from a stack of values. An instruction that doesn't find its
-//! operands has no meaning: `Runs` says that each finds them, and whoever runs code shows it.
+//! How it is stated: a `Machine` is seen as its code and where the run stands (`specs/Machine.antt`): at its start in a world, at its
+//! end with an answer of gv_meaning, which has the world that the run leaves, or nowhere, where memory was wanting. `ComesTo` of gv_run
+//! says to which answer the run of a code comes.
 //!
-//! The model: a `Stack` is seen as the list of its numbers, the top first, as `output_of` takes
-//! it. The machine runs by one loop, and what it keeps is that the bytes printed so far, and
-//! those that the rest of the code prints from the stack, make the whole output.
+//! The promise: `advance` comes to the answer to which the run of the code comes, and tells it; after that it tells the same end, and
+//! takes no memory. Where memory is wanting the run is lost: then `advance` answers want of memory from then on, and what was printed
+//! is gone. `output` gives what the world has printed and `drop_output` drops it, and nothing else. That the code goes forward is asked
+//! at the start and kept.
 //!
-//! The promise: `run_small` gives exactly these bytes, or answers want of memory.
-//!
-//! Where to begin: `small.rt`, where each instruction has its effect beside its name, and then
-//! `stack.rt`. A new instruction is a variant of `Small` with a case in `Runs` and `output_of`, and
-//! an arm in `run_small`; its step in the proof is a lemma in `proofs/Left.antt`.
-//!
-//! What is not proved: how much memory a run takes, and that it is there. Where it isn't, the
-//! bytes printed so far are gone.
+//! Where to begin: `machine.rt` beside `specs/Machine.antt`. A run stops nowhere but at its end: a further pause is a variant of
+//! `Pause`, with its case in `Advances`.
 #![tactic(auto)]
 
-mod small;
-mod stack;
+mod end;
+mod machine;
 
-pub use small::{Small, run_small};
+pub use end::{End, Pause};
+pub use machine::Machine;
 
 #[cfg(test)]
 mod tests;
