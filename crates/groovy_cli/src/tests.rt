@@ -152,6 +152,39 @@ fn scripts_print_their_sums(rt: HostRuntime) -> Result<(), Fail> {
             0,
         ),
         ("println 'a${1}'", "a${1}\n", "", 0),
+        ("println \"a${1} $b.c\"", "", not_built, 2),
+        (
+            "println 09 + #",
+            "",
+            "a.groovy:1:9: refused 5: number outside this profile\n",
+            2,
+        ),
+        (
+            "println \"a${",
+            "",
+            "a.groovy:1:11: refused 9: interpolation not ended\n",
+            2,
+        ),
+        (
+            "é /* x",
+            "",
+            "a.groovy:1:3: refused 3: comment not ended\n",
+            2,
+        ),
+    ];
+    for (script, output, line, status) in table {
+        let ran = run::<Brand>(rt.alloc(), &["a.groovy"], script.as_bytes(), Blank::new(1))?;
+        assert_eq!(rt; ran.status, status, "{script}");
+        assert_eq!(rt; ran.output.as_slice(), output.as_bytes(), "{script}");
+        assert_eq!(rt; ran.line.as_slice(), line.as_bytes(), "{script}");
+    }
+    Ok(())
+}
+
+#[test]
+fn variables_branches_and_loops(rt: HostRuntime) -> Result<(), Fail> {
+    let not_built = "a.groovy:1:1: refused 40: not built yet\n";
+    let table = [
         ("def n = 3\nn = n + 4\nprintln n * n", "49\n", "", 0),
         ("def n = 3; def n = 4", "", not_built, 2),
         ("n = 3", "", not_built, 2),
@@ -176,25 +209,6 @@ fn scripts_print_their_sums(rt: HostRuntime) -> Result<(), Fail> {
             0,
         ),
         ("break", "", not_built, 2),
-        ("println \"a${1} $b.c\"", "", not_built, 2),
-        (
-            "println 09 + #",
-            "",
-            "a.groovy:1:9: refused 5: number outside this profile\n",
-            2,
-        ),
-        (
-            "println \"a${",
-            "",
-            "a.groovy:1:11: refused 9: interpolation not ended\n",
-            2,
-        ),
-        (
-            "é /* x",
-            "",
-            "a.groovy:1:3: refused 3: comment not ended\n",
-            2,
-        ),
     ];
     for (script, output, line, status) in table {
         let ran = run::<Brand>(rt.alloc(), &["a.groovy"], script.as_bytes(), Blank::new(1))?;
