@@ -1,11 +1,11 @@
 -- Variables and operands, as the code takes them.
-use Rattle.std.proofs.Common.{◌≡◌, ℕ, zero, suc, ◌+◌, ◌-◌, ◌<◌, ◌≤◌, List, [], ◌∷◌, ◌++◌, length, drop, take, reverse, Option, Some, None, refl, sym, ap, ◌∙◌, subst, arith, append_assoc, append-nil}
+use Rattle.std.proofs.Common.{◌≡◌, ℕ, zero, suc, ◌+◌, ◌-◌, ◌<◌, ◌≤◌, List, [], ◌∷◌, ◌++◌, length, drop, take, reverse, Option, Some, None, refl, sym, ap, ◌∙◌, arith, append_assoc, append-nil}
 use Rattle.std.proofs.lemmas.List.{reverse-append}
 use Rattle.std.specs.Prelude.{slice_get, slice_set}
 use Rattle.gv_base.specs.declared.value.Value.{Value}
 use Rattle.gv_base.specs.declared.value.Value.TheVariants.{Null}
 use Rattle.gv_meaning.specs.declared.world.Cell.{Cell}
-use Rattle.gv_meaning.specs.declared.world.Cell.TheVariants.{Own, Shared}
+use Rattle.gv_meaning.specs.declared.world.Cell.TheVariants.{Own}
 use Rattle.gv_meaning.specs.Meaning.{cell_of, with_cell, fitted, filled}
 use Rattle.gv_meaning.specs.Machine.{popped}
 

@@ -1,5 +1,5 @@
 -- How many steps are left.
-use Rattle.std.proofs.Common.{◌≡◌, ℕ, zero, suc, ◌+◌, ◌<◌, ◌≤◌, List, refl, sym, ap, ◌∙◌, subst, arith}
+use Rattle.std.proofs.Common.{◌≡◌, ℕ, zero, suc, ◌<◌, List, refl, sym, ap, ◌∙◌, subst, arith}
 use Rattle.gv_code.specs.declared.code.Body.{Body}
 use Rattle.gv_meaning.specs.World.{Answer}
 use Rattle.gv_meaning.specs.Machine.{State, At, Over, step, steps}

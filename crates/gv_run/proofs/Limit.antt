@@ -1,5 +1,5 @@
 -- After how many steps the run of code that goes forward is over.
-use Rattle.std.proofs.Common.{◌≡◌, ℕ, zero, suc, ◌+◌, ◌-◌, ◌<◌, ◌≤◌, Bool, true, false, List, [], ◌∷◌, length, Option, Some, None, refl, sym, ap, ◌∙◌, subst, arith, rules}
+use Rattle.std.proofs.Common.{◌≡◌, ℕ, zero, suc, ◌+◌, ◌-◌, ◌≤◌, Bool, true, false, List, [], ◌∷◌, Option, Some, None, refl, sym, ap, subst, arith}
 use Rattle.std.specs.Prelude.{slice_get, nat_le, ◌&&◌}
 use Rattle.std.proofs.lemmas.Bool.Decides.{nat_tests}
 use Rattle.gv_code.specs.declared.code.Body.{Body}
@@ -7,9 +7,9 @@ use Rattle.gv_code.specs.declared.code.Handler.{Handler}
 use Rattle.gv_code.specs.declared.code.Instruction.{Instruction}
 use Rattle.gv_code.specs.declared.code.Op.{Op}
 use Rattle.gv_code.specs.declared.code.Op.TheVariants.{Push, Load, Store, Declare, DeclareShared, Invoke, Ordered, Equal, Not, Discard, Tick, JumpOn, JumpBack, JumpUnless, Leave, Finish}
-use Rattle.gv_code.specs.Forward.{TakesTick, JumpFits, HandlersFit, GoesForward, Forward}
+use Rattle.gv_code.specs.Forward.{TakesTick, JumpFits, HandlersFit, Forward}
 use Rattle.gv_meaning.specs.declared.world.World.{World}
-use Rattle.gv_meaning.specs.Machine.{Over, opened, steps}
+use Rattle.gv_meaning.specs.Machine.{opened, steps}
 use Rattle.gv_written.proofs.Done.{ends}
 use Rattle.gv_run.specs.Runs.{IsOver, EndsIn}
 

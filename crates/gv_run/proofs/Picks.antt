@@ -1,5 +1,5 @@
 -- Instructions that choose.
-use Rattle.std.proofs.Common.{◌≡◌, ℕ, ◌+◌, Bool, true, false, List, [], ◌∷◌, ◌++◌, length, take, Option, Some, None, refl, sym, ap, ◌∙◌, arith}
+use Rattle.std.proofs.Common.{◌≡◌, ℕ, ◌+◌, true, false, List, [], ◌∷◌, ◌++◌, length, take, refl, arith}
 use Rattle.std.specs.Prelude.{nat_le}
 use Rattle.gv_base.specs.declared.value.Value.{Value}
 use Rattle.gv_code.specs.declared.code.Body.{Body}

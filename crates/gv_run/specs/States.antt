@@ -1,5 +1,5 @@
 -- The machine's parts as a state of the code meaning.
-use Rattle.std.specs.Prelude.{◌≡◌, ℕ, List, ◌∷◌, true, false, length, nat_le, Option, Some, None}
+use Rattle.std.specs.Prelude.{◌≡◌, ℕ, List, true, false, length, nat_le, Option, Some, None}
 use Rattle.gv_base.specs.declared.value.Value.{Value}
 use Rattle.gv_heap.specs.Heap.{pay, with_new_place}
 use Rattle.gv_code.specs.declared.code.Body.{Body}

@@ -5,17 +5,14 @@ use Rattle.gv_code.specs.declared.code.Body.{Body}
 use Rattle.gv_meaning.specs.declared.world.World.{World}
 use Rattle.gv_meaning.specs.World.{Answer}
 use Rattle.gv_meaning.specs.Meaning.{meaning}
-use Rattle.gv_meaning.specs.Machine.{State, At, Over, opened, step, steps}
+use Rattle.gv_meaning.specs.Machine.{State, Over, opened, step, steps}
 use Rattle.gv_written.specs.Correct.{IsRight}
 use Rattle.gv_run.specs.Runs.{ComesTo}
-
-stays : (code : List Body) (k : ℕ) (o : Answer) → steps code k (Over o) ≡ Over o
-stays code zero o = refl
-stays code (suc k) o = stays code k o
+use Rattle.gv_run.proofs.Left.{over_stays}
 
 -- what is over stays so
 later : (code : List Body) (n k : ℕ) (s : State) (o : Answer) → steps code n s ≡ Over o → steps code (n + k) s ≡ Over o
-later code zero k s o e = let z : zero + k ≡ k = omega arith in ap (λ m. steps code m s) z ∙ ap (λ s. steps code k s) e ∙ stays code k o
+later code zero k s o e = let z : zero + k ≡ k = omega arith in ap (λ m. steps code m s) z ∙ over_stays code k s (steps code k s) o refl e
 later code (suc n) k s o e = let z : suc n + k ≡ suc (n + k) = omega arith in ap (λ m. steps code m s) z ∙ later code n k (step code s) o e
 
 over_is : (o p : Answer) → Over o ≡ Over p → o ≡ p

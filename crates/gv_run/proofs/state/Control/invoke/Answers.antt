@@ -1,4 +1,3 @@
-use Rattle.std.proofs.Common.{sym}
 use Rattle.gv_run.proofs.Cells.{popped_is}
 use Rattle.gv_run.proofs.state.Control.invoke.Goals as goal
 
