@@ -62,7 +62,7 @@ fn takes_object(takes: Takes, object: &Object) -> bool
         Takes::Any => true,
         Takes::Text | Takes::NumberOrText => matches!(object, Object::Text(_)),
         Takes::IntegerOrList | Takes::List => {
-            matches!(object, Object::List(_) | Object::Range { .. })
+            matches!(object, Object::List(_) | Object::Range(_))
         }
         Takes::Map => matches!(object, Object::Map(_)),
         Takes::Closure => matches!(object, Object::Closure(_)),

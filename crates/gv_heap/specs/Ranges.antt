@@ -3,6 +3,13 @@ use Rattle.std.specs.Prelude.{◌≡◌, ℕ, ◌+◌, ◌≤◌, ℤ, ◌-ℤ�
 use Rattle.std.specs.Int.{w32}
 use Rattle.std.specs.Int.RustNames.{unsigned_abs}
 
+-- a range, as contracts see it
+pub record RangeState : Type 0 where
+  pub first : ℤ
+  pub last : ℤ
+  pub open_end : Bool
+  pub long : Bool
+
 -- how many elements a range has: up or down to its last, which an open end leaves out
 abbrev pub range_size : ℤ → ℤ → Bool → ℕ
 range_size first last open_end = unsigned_abs (last -ℤ first) + (if open_end then 0 else 1)

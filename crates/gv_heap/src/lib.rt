@@ -27,6 +27,7 @@ mod heap;
 mod key;
 mod make;
 mod object;
+mod range;
 mod read;
 mod write;
 
@@ -37,6 +38,7 @@ pub use error::HeapError;
 pub use heap::Heap;
 pub use key::MapKey;
 pub use object::{Instance, Object, Part};
+pub use range::Range;
 pub use sqlite_items::Items;
 
 #[cfg(test)]

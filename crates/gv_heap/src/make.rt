@@ -10,6 +10,7 @@ use crate::entries::Entries;
 use crate::error::HeapError;
 use crate::heap::Heap;
 use crate::object::{Instance, Object, Part};
+use crate::range::Range;
 use gv_base::{BodyId, ClassId, MetaObject, ObjId, OutOfMemory, PlaceId, Text, Value};
 use sqlite_items::Items;
 
@@ -87,15 +88,10 @@ impl Heap {
         long: bool,
     ) -> Result<ObjId, HeapError>
         requires { IsRange first last open_end long }
-        ensures { Makes self.old (RangeObject first last open_end long) 1 result self.new }
+        ensures { Makes self.old (RangeObject (record { first = first; last = last; open_end = open_end; long = long })) 1 result self.new }
     {
-        let range = Object::Range {
-            first,
-            last,
-            open_end,
-            long,
-        };
-        self.make(range, 1)
+        let range = Range::new(first, last, open_end, long);
+        self.make(Object::Range(range), 1)
     }
 
     /// Makes an instance with its fields. `number` says which instance of the run it is, or 0.

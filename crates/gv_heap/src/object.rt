@@ -1,6 +1,7 @@
 use crate::closure::ClosureBox;
 use crate::elements::Elements;
 use crate::entries::Entries;
+use crate::range::Range;
 use gv_base::{ClassId, MetaObject, ObjId, Text, Value};
 use sqlite_items::Items;
 
@@ -12,19 +13,10 @@ pub enum Object {
     GString(Items<Part>),
     List(Elements),
     Map(Entries),
-    /// From `first` to `last`, without `last` where the end is open, of Longs or of Integers.
-    Range {
-        first: i64,
-        last: i64,
-        open_end: bool,
-        long: bool,
-    },
+    Range(Range),
     Closure(ClosureBox),
     /// An entry of a map, as a walk hands it to a closure.
-    Entry {
-        key: Value,
-        value: Value,
-    },
+    Entry { key: Value, value: Value },
     /// An instance of a script class or of an exception class.
     Instance(Instance),
     Meta(MetaObject),

@@ -131,7 +131,13 @@ fn each_object_takes_its_price(rt: HostRuntime) -> Result<(), Fail> {
         heap.instance(instance).fields.as_slice(),
         [Value::Null, Value::Int(9)].as_slice()
     );
-    assert!(rt; matches!(heap.at(range), Object::Range { first: 5, .. }));
+    let Object::Range(range) = heap.at(range) else {
+        return Err(Fail);
+    };
+    assert_eq!(rt;
+        (range.ends(), range.open_end(), range.long()),
+        ((5, 1), false, false)
+    );
     Ok(())
 }
 

@@ -1,5 +1,5 @@
 -- What a caller's proof cites.
-use Rattle.std.proofs.Common.{◌≡◌, ℕ, ◌-◌, refl, ap, sym, arith}
+use Rattle.std.proofs.Common.{refl, ap, arith}
 use Rattle.gv_base.specs.declared.value.Value.{Value}
 use Rattle.gv_heap.specs.Heap.{HeapState}
 use Rattle.gv_rows.specs.Reply.{Did, just}

@@ -1,5 +1,5 @@
 -- Which arguments a built-in method takes.
-use Rattle.std.specs.Prelude.{◌≡◌, ℕ, Bool, true, false, ◌&&◌, ◌||◌, List, [], ◌∷◌, Option, Some, None, slice_get, unwrap_or, length}
+use Rattle.std.specs.Prelude.{◌≡◌, ℕ, Bool, true, false, ◌&&◌, ◌||◌, List, [], ◌∷◌, Option, Some, slice_get, unwrap_or, length}
 use Rattle.gv_base.specs.declared.value.Value.{Value}
 use Rattle.gv_base.specs.declared.value.Value.TheVariants.{Null, Int, Long, Obj}
 use Rattle.gv_heap.specs.Heap.{HeapState, object_at}
@@ -18,12 +18,12 @@ is_text (Some (object.Text text)) = true
 is_text other = false
 
 abbrev pub is_range : Option Object → Bool
-is_range (Some (object.Range first last open_end long)) = true
+is_range (Some (object.Range range)) = true
 is_range other = false
 
 abbrev pub is_sequence : Option Object → Bool
 is_sequence (Some (object.List elements)) = true
-is_sequence (Some (object.Range first last open_end long)) = true
+is_sequence (Some (object.Range range)) = true
 is_sequence other = false
 
 abbrev pub is_map : Option Object → Bool

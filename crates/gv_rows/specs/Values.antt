@@ -1,5 +1,5 @@
 -- What is known of a value: its class, the key that it is in a map, the elements that it has in order.
-use Rattle.std.specs.Prelude.{◌≡◌, ℕ, zero, suc, ◌+◌, ◌<◌, ℤ, pos, negsuc, ◌+ℤ◌, ◌-ℤ◌, Bool, true, false, not, List, [], ◌∷◌, map, codes, length, Option, Some, None, slice_get, int_lt, min, if◌then◌else◌}
+use Rattle.std.specs.Prelude.{ℕ, zero, suc, ℤ, pos, negsuc, ◌+ℤ◌, ◌-ℤ◌, Bool, false, ◌&&◌, List, [], ◌∷◌, map, codes, length, Option, Some, None, slice_get, int_lt, min, if◌then◌else◌}
 use Rattle.std.specs.Option.{option_map_or}
 use Rattle.gv_base.specs.Names.{name_of, text_of}
 use Rattle.gv_base.specs.declared.value.TheConstants.{NULL_KIND}
@@ -11,7 +11,7 @@ use Rattle.gv_classes.specs.Classes.{declares}
 use Rattle.gv_classes.specs.declared.declared.Declared.{Declared}
 use Rattle.gv_classes.specs.declared.ids.TheConstants as class
 use Rattle.gv_heap.specs.Heap.{HeapState, object_at}
-use Rattle.gv_heap.specs.Ranges.{range_size, IsRange}
+use Rattle.gv_heap.specs.Ranges.{range_size, RangeState}
 use Rattle.gv_heap.specs.declared.key.MapKey.{MapKey}
 use Rattle.gv_heap.specs.declared.key.MapKey.TheVariants as key
 use Rattle.gv_heap.specs.declared.object.Object.{Object}
@@ -29,7 +29,7 @@ object_class (Some (object.Text text)) = class.STRING
 object_class (Some (object.GString parts)) = class.GSTRING
 object_class (Some (object.List elements)) = class.LIST
 object_class (Some (object.Map entries)) = class.MAP
-object_class (Some (object.Range first last open_end long)) = class.RANGE
+object_class (Some (object.Range range)) = class.RANGE
 object_class (Some (object.Closure closure)) = class.CLOSURE
 object_class (Some (object.Entry k v)) = class.ENTRY
 object_class (Some (object.Instance instance)) = instance.class
@@ -49,16 +49,11 @@ class_of heap (Obj id) = object_class (object_at heap id)
 abbrev pub class_text : List (List ℕ) → List Declared → ℕ → List ℕ
 class_text names classes c = option_map_or (λ d. text_of names d.name) (slice_get classes c) []
 
--- the object of a value is there, and its class
-abbrev pub IsThere : List Declared → HeapState → Value → Type 0
-IsThere classes heap (Obj id) = (id < length heap.objects) × (object_class (object_at heap id) < length classes)
-IsThere classes heap value = Unit {0}
-
 -- ---- keys of maps
 
 -- a class, or one above it, declares a method `equals`
 abbrev pub declares_equals : List (List ℕ) → List Declared → ℕ → Bool
-declares_equals names classes c = option_map_or (declares classes c) (name_of names (codes "equals")) false
+declares_equals names classes c = option_map_or (λ name. int_lt (pos c) (pos (length classes)) && declares classes c name) (name_of names (codes "equals")) false
 
 -- the key that an object is: a text by its bytes, and an instance by itself where its classes declare no `equals`
 abbrev pub object_key : List (List ℕ) → List Declared → ℕ → Option Object → Option MapKey
@@ -91,14 +86,13 @@ number long n = if long then Long n else Int n
 abbrev pub range_elements : ℤ → ℤ → Bool → Bool → List Value
 range_elements first last open_end long = map (number long) (range_numbers first last open_end)
 
--- each range of the heap can be made
-abbrev pub AreRanges : HeapState → Type 0
-AreRanges heap = (id : ℕ) (first last : ℤ) (open_end long : Bool) → object_at heap id ≡ Some (object.Range first last open_end long) → IsRange first last open_end long
+abbrev pub elements_of : RangeState → List Value
+elements_of range = range_elements range.first range.last range.open_end range.long
 
 -- the elements of a list, or of a range
 abbrev pub elements_in : Option Object → List Value
 elements_in (Some (object.List elements)) = elements
-elements_in (Some (object.Range first last open_end long)) = range_elements first last open_end long
+elements_in (Some (object.Range range)) = elements_of range
 elements_in other = []
 
 abbrev pub sequence_at : HeapState → ℕ → List Value

@@ -1,4 +1,4 @@
-ghost use Rattle.std.specs.Prelude.{◌≡◌, ◌<◌, length, IfOk, Some};
+ghost use Rattle.std.specs.Prelude.{◌≡◌, IfOk, option_copied};
 ghost use Rattle.gv_rows.specs.Values as spec;
 
 use gv_base::{ClassId, Names, ObjId, OutOfMemory, Text, Value};
@@ -15,7 +15,6 @@ pub fn key_of(
     heap: &Heap,
     value: Value,
 ) -> Result<Option<MapKey>, OutOfMemory>
-    requires { spec.IsThere classes.now heap.now value }
     ensures { IfOk result (λ key. key ≡ spec.key_of names.now classes.now heap.now value) }
 {
     let key = match value {
@@ -24,7 +23,7 @@ pub fn key_of(
         Value::Int(n) => MapKey::Int(n),
         Value::Long(n) => MapKey::Long(n),
         Value::Class(class) => MapKey::Class(class),
-        Value::Obj(id) => return object_key(alloc, names, classes, id, heap.at(id)),
+        Value::Obj(id) => return object_key(alloc, names, classes, id, heap.get(id)),
     };
     Ok(Some(key))
 }
@@ -35,17 +34,16 @@ fn object_key(
     names: &Names,
     classes: &Classes,
     id: ObjId,
-    object: &Object,
+    object: Option<&Object>,
 ) -> Result<Option<MapKey>, OutOfMemory>
-    requires { spec.object_class (Some object.now) < length classes.now }
-    ensures { IfOk result (λ key. key ≡ spec.object_key names.now classes.now id (Some object.now)) }
+    ensures { IfOk result (λ key. key ≡ spec.object_key names.now classes.now id (option_copied object.entry)) }
 {
     match object {
-        Object::Text(text) => {
+        Some(Object::Text(text)) => {
             let text = Text::from_str(alloc, text.as_str())?;
             Ok(Some(MapKey::Text(text)))
         }
-        Object::Instance(instance) => {
+        Some(Object::Instance(instance)) => {
             if declares_equals(names, classes, instance.class) {
                 Ok(None)
             } else {
@@ -58,11 +56,10 @@ fn object_key(
 
 /// Whether a class, or one above it, declares a method `equals`.
 fn declares_equals(names: &Names, classes: &Classes, class: ClassId) -> bool
-    requires { class < length classes.now }
     ensures { result ≡ spec.declares_equals names.now classes.now class }
 {
     match names.find("equals") {
-        Some(name) => classes.declares(class, name),
+        Some(name) => class < classes.len() && classes.declares(class, name),
         None => false,
     }
 }

@@ -1,14 +1,11 @@
 ghost use Rattle.std.specs.Prelude.{◌≡◌, ◌+◌, ◌-ℤ◌, ◌≤◌, ◌<◌, true, false, length, take, drop, int_lt, slice_get, Some, IfOk, FitsSigned};
 ghost use Rattle.std.specs.Int.{w32};
-ghost use Rattle.gv_heap.specs.Heap.{object_at};
-ghost use Rattle.gv_heap.specs.Ranges.{range_size, IsRange};
 ghost use Rattle.std.specs.Int.RustNames.{unsigned_abs};
 ghost use Rattle.gv_rows.specs.Sources.{stepped};
-ghost use Rattle.gv_rows.specs.Takes.{is_sequence};
 ghost use Rattle.gv_rows.specs.Values as spec;
 
 use gv_base::{ObjId, OutOfMemory, Value};
-use gv_heap::{Heap, Object};
+use gv_heap::{Heap, Object, Range};
 use std::alloc::Global;
 use std::marker::Model;
 
@@ -16,12 +13,7 @@ use std::marker::Model;
 #[derive(Clone, Copy)]
 pub enum Source<'a> {
     Elements(&'a [Value]),
-    Range {
-        first: i64,
-        last: i64,
-        open_end: bool,
-        long: bool,
-    },
+    Range(&'a Range),
 }
 
 /// The elements of a list or of a range, in order. Those of a range are nowhere written out.
@@ -33,36 +25,22 @@ pub struct Sequence<'a> {
 impl<'a> Model for Sequence<'a> {
     ghost use Rattle.std.specs.Prelude.{List};
     ghost use Rattle.gv_base.specs.declared.value.Value.{Value as AnyValue};
-    ghost use Rattle.gv_rows.specs.Sources.{elements_from, CanBe};
+    ghost use Rattle.gv_rows.specs.Sources.{elements_from};
 
     ghost Value = { List AnyValue };
 
     ghost view = { λ s. elements_from s.source };
-
-    ghost invariant = { λ s. CanBe s.source };
 }
 
 impl<'a> Sequence<'a> {
-    /// Those of the list or range of a number.
+    /// Those of the list or range of a number; none where it is another object, or none.
     pub fn at(heap: &'a Heap, id: ObjId) -> Sequence<'a>
-        requires sequence { is_sequence (object_at heap.now id) ≡ true }
-        requires ranges { spec.AreRanges heap.now }
         ensures { result ≡ spec.sequence_at heap.now id }
     {
-        let source = match heap.at(id) {
-            Object::List(elements) => Source::Elements(elements.as_slice()),
-            Object::Range {
-                first,
-                last,
-                open_end,
-                long,
-            } => Source::Range {
-                first: *first,
-                last: *last,
-                open_end: *open_end,
-                long: *long,
-            },
-            _ => unreachable!(),
+        let source = match heap.get(id) {
+            Some(Object::List(elements)) => Source::Elements(elements.as_slice()),
+            Some(Object::Range(range)) => Source::Range(range),
+            _ => Source::Elements(&[]),
         };
         Sequence { source }
     }
@@ -73,12 +51,7 @@ impl<'a> Sequence<'a> {
     {
         match self.source {
             Source::Elements(elements) => elements.len(),
-            Source::Range {
-                first,
-                last,
-                open_end,
-                long,
-            } => range_len(first, last, open_end, long),
+            Source::Range(range) => range_len(range),
         }
     }
 
@@ -89,12 +62,7 @@ impl<'a> Sequence<'a> {
     {
         match self.source {
             Source::Elements(elements) => element_at(elements, at),
-            Source::Range {
-                first,
-                last,
-                open_end,
-                long,
-            } => range_get(first, last, open_end, long, at),
+            Source::Range(range) => range_get(range, at),
         }
     }
 
@@ -108,12 +76,7 @@ impl<'a> Sequence<'a> {
                 let (_, rest) = elements.split_at(from);
                 Vec::from_slice(alloc, &rest[..count])
             }
-            Source::Range {
-                first,
-                last,
-                open_end,
-                long,
-            } => range_copy(alloc, first, last, open_end, long, from, count),
+            Source::Range(range) => range_copy(alloc, range, from, count),
         }
     }
 }
@@ -128,42 +91,49 @@ fn element_at(elements: &[Value], at: usize) -> Value
 
 /// How many numbers a range has.
 #[tactic(auto, using(crate::proofs::Numbers::length_range))]
-fn range_len(first: i64, last: i64, open_end: bool, long: bool) -> usize
-    requires { IsRange first last open_end long }
-    ensures { result ≡ length (spec.range_elements first last open_end long) }
+fn range_len(range: &Range) -> usize
+    ensures { result ≡ length (spec.elements_of range.now) }
 {
+    let (first, last) = range.ends();
     let steps = last.abs_diff(first) as usize;
-    if open_end { steps } else { steps + 1 }
+    if range.open_end() { steps } else { steps + 1 }
 }
 
 /// The number of a range at a place.
 #[tactic(auto, using(crate::proofs::Numbers::length_range, crate::proofs::Numbers::get_range))]
-fn range_get(first: i64, last: i64, open_end: bool, long: bool, at: usize) -> Value
-    requires range { IsRange first last open_end long }
-    requires within { at < length (spec.range_elements first last open_end long) }
-    ensures { slice_get (spec.range_elements first last open_end long) at ≡ Some result }
+fn range_get(range: &Range, at: usize) -> Value
+    requires { at < length (spec.elements_of range.now) }
+    ensures { slice_get (spec.elements_of range.now) at ≡ Some result }
 {
-    number(long, number_at(first, last, at as u64))
+    let (first, last) = range.ends();
+    element_of(range.long(), first, last, at)
+}
+
+/// The number that stands so many steps behind the first, as a value.
+fn element_of(long: bool, first: i64, last: i64, steps: usize) -> Value
+    requires steps { steps ≤ unsigned_abs (last -ℤ first) }
+    requires first { long ≡ false → FitsSigned w32 first }
+    requires last { long ≡ false → FitsSigned w32 last }
+    ensures { result ≡ spec.number long (stepped (int_lt last first) first steps) }
+{
+    number(long, number_at(first, last, steps as u64))
 }
 
 /// So many numbers of a range from a place on.
-#[tactic(auto, using(crate::proofs::Numbers::length_range, crate::proofs::Numbers::taken_more))]
+#[tactic(auto, using(crate::proofs::Numbers::length_range, crate::proofs::Numbers::get_range, crate::proofs::Numbers::taken_more))]
 fn range_copy(
     alloc: Global,
-    first: i64,
-    last: i64,
-    open_end: bool,
-    long: bool,
+    range: &Range,
     from: usize,
     count: usize,
 ) -> Result<Vec<Value>, OutOfMemory>
-    requires range { IsRange first last open_end long }
-    requires within { from + count ≤ length (spec.range_elements first last open_end long) }
-    ensures { IfOk result (λ items. items.items ≡ take count (drop from (spec.range_elements first last open_end long))) }
+    requires { from + count ≤ length (spec.elements_of range.now) }
+    ensures { IfOk result (λ items. items.items ≡ take count (drop from (spec.elements_of range.now))) }
 {
+    let (first, last) = range.ends();
     let mut items = Vec::with_capacity(alloc, count)?;
     for steps in 0..count {
-        items.push(range_get(first, last, open_end, long, from + steps))?;
+        items.push(element_of(range.long(), first, last, from + steps))?;
     }
     Ok(items)
 }

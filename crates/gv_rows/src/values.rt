@@ -33,7 +33,7 @@ fn object_class(object: &Object) -> ClassId
         Object::GString(_) => GSTRING,
         Object::List(_) => LIST,
         Object::Map(_) => MAP,
-        Object::Range { .. } => RANGE,
+        Object::Range(_) => RANGE,
         Object::Closure(_) => CLOSURE,
         Object::Entry { .. } => ENTRY,
         Object::Instance(instance) => instance.class,
