@@ -1,0 +1,3 @@
+pub mod Heaps
+pub mod Lists
+pub mod Texts

@@ -1,0 +1,7 @@
+mod cases;
+mod joining;
+mod reading;
+mod takes;
+mod throwing;
+mod world;
+mod writing;

@@ -1,0 +1,6 @@
+pub mod Joining
+pub mod Keys
+pub mod Prices
+pub mod Reading
+pub mod Rows
+pub mod Writing
