@@ -16,3 +16,6 @@ mod held;
 mod watch;
 
 pub use bodies::first_of_bodies;
+
+#[cfg(test)]
+mod tests;

@@ -66,15 +66,27 @@ impl Watch {
             Event::Implicit(name) => self.hold(name),
             Event::Class(_) => Ok(()),
             Event::Leave(place, leave) => {
-                self.unless(self.inner.may_leave(leave), RefusalKind::NothingToLeave, place);
+                self.unless(
+                    self.inner.may_leave(leave),
+                    RefusalKind::NothingToLeave,
+                    place,
+                );
                 Ok(())
             }
             Event::This(place) => {
-                self.unless(self.inner.has_this(), RefusalKind::ThisOrSuperOutOfPlace, place);
+                self.unless(
+                    self.inner.has_this(),
+                    RefusalKind::ThisOrSuperOutOfPlace,
+                    place,
+                );
                 Ok(())
             }
             Event::SuperCall(place) => {
-                self.unless(self.inner.has_super(), RefusalKind::ThisOrSuperOutOfPlace, place);
+                self.unless(
+                    self.inner.has_super(),
+                    RefusalKind::ThisOrSuperOutOfPlace,
+                    place,
+                );
                 Ok(())
             }
             Event::OutOfPlace(place) => {

@@ -11,7 +11,8 @@ use crate::names::{constructor_in, super_in};
 use crate::types::{maybe_written, type_tree, types, written};
 use gv_base::{Name, OutOfMemory, Place};
 use gv_tree::{
-    Arg, Atom, Case, Catch, Closure, Decl, Entry, Expr, GString, Ident, Item, Key, Label, Param, Part, Stmt, Var,
+    Arg, Atom, Case, Catch, Closure, Decl, Entry, Expr, GString, Ident, Item, Key, Label, Param,
+    Part, Stmt, Var,
 };
 use sqlite_items::{Boxed, Items};
 
@@ -25,7 +26,12 @@ pub(crate) struct Reader {
 impl Reader {
     // An expression, as deep as so many may stand in one another.
     #[cycle(read)]
-    pub(crate) fn expr(&self, levels: u32, x: &Expr, out: &mut Items<Event>) -> Result<(), OutOfMemory>
+    pub(crate) fn expr(
+        &self,
+        levels: u32,
+        x: &Expr,
+        out: &mut Items<Event>,
+    ) -> Result<(), OutOfMemory>
         ensures { OnOk result (out.new ≡ spec.expr_said self.now.it levels x.now out.old) }
     {
         if levels == 0 {
@@ -80,7 +86,12 @@ impl Reader {
     }
 
     #[cycle(read)]
-    pub(crate) fn maybe_expr(&self, levels: u32, x: &Option<Boxed<Expr>>, out: &mut Items<Event>) -> Result<(), OutOfMemory>
+    pub(crate) fn maybe_expr(
+        &self,
+        levels: u32,
+        x: &Option<Boxed<Expr>>,
+        out: &mut Items<Event>,
+    ) -> Result<(), OutOfMemory>
         ensures { OnOk result (out.new ≡ spec.if_there (spec.expr_said self.now.it levels) x.now out.old) }
     {
         match x {
@@ -100,7 +111,12 @@ impl Reader {
     }
 
     #[cycle(read)]
-    fn gstring(&self, levels: u32, text: &GString, out: &mut Items<Event>) -> Result<(), OutOfMemory>
+    fn gstring(
+        &self,
+        levels: u32,
+        text: &GString,
+        out: &mut Items<Event>,
+    ) -> Result<(), OutOfMemory>
         ensures { OnOk result (out.new ≡ spec.gstring_said self.now.it (spec.expr_said self.now.it levels) (spec.stmt_said self.now.it levels) text.now out.old) }
     {
         self.parts(levels, text.parts.as_slice(), out)
@@ -156,7 +172,12 @@ impl Reader {
     }
 
     #[cycle(read)]
-    fn entries(&self, levels: u32, entries: &[Entry], out: &mut Items<Event>) -> Result<(), OutOfMemory>
+    fn entries(
+        &self,
+        levels: u32,
+        entries: &[Entry],
+        out: &mut Items<Event>,
+    ) -> Result<(), OutOfMemory>
         ensures { OnOk result (out.new ≡ spec.each (spec.entry_said self.now.it (spec.expr_said self.now.it levels) (spec.stmt_said self.now.it levels)) entries.now out.old) }
     {
         for entry in entries {
@@ -183,7 +204,12 @@ impl Reader {
     }
 
     #[cycle(read)]
-    pub(crate) fn args(&self, levels: u32, args: &[Arg], out: &mut Items<Event>) -> Result<(), OutOfMemory>
+    pub(crate) fn args(
+        &self,
+        levels: u32,
+        args: &[Arg],
+        out: &mut Items<Event>,
+    ) -> Result<(), OutOfMemory>
         ensures { OnOk result (out.new ≡ spec.args_said self.now.it (spec.expr_said self.now.it levels) (spec.stmt_said self.now.it levels) args.now out.old) }
     {
         for arg in args {
@@ -197,7 +223,11 @@ impl Reader {
         ensures { OnOk result (out.new ≡ spec.arg_said self.now.it (spec.expr_said self.now.it levels) (spec.stmt_said self.now.it levels) arg.now out.old) }
     {
         match arg {
-            Arg::Plain(x) | Arg::Spread(_, x) | Arg::SpreadMap(_, x) => self.expr(levels, x.get(), out),
+            Arg::Plain(x) | Arg::Spread(_, x) | Arg::SpreadMap(_, x) => self.expr(
+                levels,
+                x.get(),
+                out,
+            ),
             Arg::Keyed(key, x) => {
                 self.key(levels, key, out)?;
                 self.expr(levels, x.get(), out)
@@ -225,7 +255,13 @@ impl Reader {
 
     // The receiver of a call.
     #[cycle(read)]
-    fn receiver(&self, levels: u32, superclass: Option<Place>, x: &Expr, out: &mut Items<Event>) -> Result<(), OutOfMemory>
+    fn receiver(
+        &self,
+        levels: u32,
+        superclass: Option<Place>,
+        x: &Expr,
+        out: &mut Items<Event>,
+    ) -> Result<(), OutOfMemory>
         ensures { OnOk result (out.new ≡ spec.receiver_said self.now.it (spec.expr_said self.now.it levels) (spec.stmt_said self.now.it levels) superclass x.now out.old) }
     {
         match superclass {
@@ -250,7 +286,12 @@ impl Reader {
     }
 
     #[cycle(read)]
-    pub(crate) fn params(&self, levels: u32, params: &[Param], out: &mut Items<Event>) -> Result<(), OutOfMemory>
+    pub(crate) fn params(
+        &self,
+        levels: u32,
+        params: &[Param],
+        out: &mut Items<Event>,
+    ) -> Result<(), OutOfMemory>
         ensures { OnOk result (out.new ≡ spec.each (spec.param_said self.now.it (spec.expr_said self.now.it levels) (spec.stmt_said self.now.it levels)) params.now out.old) }
     {
         for param in params {
@@ -260,7 +301,12 @@ impl Reader {
     }
 
     #[cycle(read)]
-    fn closure(&self, levels: u32, closure: &Closure, out: &mut Items<Event>) -> Result<(), OutOfMemory>
+    fn closure(
+        &self,
+        levels: u32,
+        closure: &Closure,
+        out: &mut Items<Event>,
+    ) -> Result<(), OutOfMemory>
         ensures { OnOk result (out.new ≡ spec.closure_said self.now.it (spec.expr_said self.now.it levels) (spec.stmt_said self.now.it levels) closure.now out.old) }
     {
         out.push(Event::Open(Scope::Closure))?;
@@ -270,7 +316,12 @@ impl Reader {
     }
 
     #[cycle(read)]
-    fn closure_body(&self, levels: u32, closure: &Closure, out: &mut Items<Event>) -> Result<(), OutOfMemory>
+    fn closure_body(
+        &self,
+        levels: u32,
+        closure: &Closure,
+        out: &mut Items<Event>,
+    ) -> Result<(), OutOfMemory>
         ensures { OnOk result (out.new ≡ spec.body_in self.now.it (spec.expr_said self.now.it levels) (spec.stmt_said self.now.it levels) (out-Closure closure.now) out.old) }
     {
         match closure {
@@ -291,7 +342,12 @@ impl Reader {
 
     // A statement, as deep as so many may stand in one another.
     #[cycle(read)]
-    pub(crate) fn stmt(&self, levels: u32, stmt: &Stmt, out: &mut Items<Event>) -> Result<(), OutOfMemory>
+    pub(crate) fn stmt(
+        &self,
+        levels: u32,
+        stmt: &Stmt,
+        out: &mut Items<Event>,
+    ) -> Result<(), OutOfMemory>
         ensures { OnOk result (out.new ≡ spec.stmt_said self.now.it levels stmt.now out.old) }
     {
         if levels == 0 {
@@ -353,9 +409,9 @@ impl Reader {
                 self.block(levels, stmts.as_slice(), out)?;
                 self.catches(levels, catches.as_slice(), out)?;
                 match last {
-            Some(last) => self.block(levels, last.as_slice(), out),
-            None => Ok(()),
-        }
+                    Some(last) => self.block(levels, last.as_slice(), out),
+                    None => Ok(()),
+                }
             }
             Stmt::Return(_, value) => self.maybe_expr(levels, value, out),
             Stmt::Leave(place, leave) => {
@@ -370,7 +426,12 @@ impl Reader {
     }
 
     #[cycle(read)]
-    fn maybe_stmt(&self, levels: u32, stmt: &Option<Boxed<Stmt>>, out: &mut Items<Event>) -> Result<(), OutOfMemory>
+    fn maybe_stmt(
+        &self,
+        levels: u32,
+        stmt: &Option<Boxed<Stmt>>,
+        out: &mut Items<Event>,
+    ) -> Result<(), OutOfMemory>
         ensures { OnOk result (out.new ≡ spec.if_there (spec.stmt_said self.now.it levels) stmt.now out.old) }
     {
         match stmt {
@@ -380,7 +441,12 @@ impl Reader {
     }
 
     #[cycle(read)]
-    pub(crate) fn stmts(&self, levels: u32, stmts: &[Stmt], out: &mut Items<Event>) -> Result<(), OutOfMemory>
+    pub(crate) fn stmts(
+        &self,
+        levels: u32,
+        stmts: &[Stmt],
+        out: &mut Items<Event>,
+    ) -> Result<(), OutOfMemory>
         ensures { OnOk result (out.new ≡ spec.each (spec.stmt_said self.now.it levels) stmts.now out.old) }
     {
         for stmt in stmts {
@@ -411,7 +477,12 @@ impl Reader {
     }
 
     #[cycle(read)]
-    fn maybe_branch(&self, levels: u32, stmt: &Option<Boxed<Stmt>>, out: &mut Items<Event>) -> Result<(), OutOfMemory>
+    fn maybe_branch(
+        &self,
+        levels: u32,
+        stmt: &Option<Boxed<Stmt>>,
+        out: &mut Items<Event>,
+    ) -> Result<(), OutOfMemory>
         ensures { OnOk result (out.new ≡ spec.if_there (spec.branch_said self.now.it (spec.expr_said self.now.it levels) (spec.stmt_said self.now.it levels)) stmt.now out.old) }
     {
         match stmt {
@@ -421,7 +492,12 @@ impl Reader {
     }
 
     #[cycle(read)]
-    pub(crate) fn decl(&self, levels: u32, decl: &Decl, out: &mut Items<Event>) -> Result<(), OutOfMemory>
+    pub(crate) fn decl(
+        &self,
+        levels: u32,
+        decl: &Decl,
+        out: &mut Items<Event>,
+    ) -> Result<(), OutOfMemory>
         ensures { OnOk result (out.new ≡ spec.decl_said self.now.it (spec.expr_said self.now.it levels) (spec.stmt_said self.now.it levels) decl.now out.old) }
     {
         written(decl.written, out)?;
@@ -451,7 +527,12 @@ impl Reader {
     }
 
     #[cycle(read)]
-    fn catches(&self, levels: u32, catches: &[Catch], out: &mut Items<Event>) -> Result<(), OutOfMemory>
+    fn catches(
+        &self,
+        levels: u32,
+        catches: &[Catch],
+        out: &mut Items<Event>,
+    ) -> Result<(), OutOfMemory>
         ensures { OnOk result (out.new ≡ spec.each (spec.catch_said self.now.it (spec.expr_said self.now.it levels) (spec.stmt_said self.now.it levels)) catches.now out.old) }
     {
         for catch in catches {

@@ -33,7 +33,13 @@ pub fn events_of(alloc: Global, words: Words, script: &Script) -> Result<Items<E
 }
 
 impl Reader {
-    fn statements(&self, levels: u32, words: Words, tops: &[Top], out: &mut Items<Event>) -> Result<(), OutOfMemory>
+    fn statements(
+        &self,
+        levels: u32,
+        words: Words,
+        tops: &[Top],
+        out: &mut Items<Event>,
+    ) -> Result<(), OutOfMemory>
         ensures { OnOk result (out.new ≡ spec.each (spec.statement_said self.now.it (spec.expr_said self.now.it levels) (spec.stmt_said self.now.it levels) words) tops.now out.old) }
     {
         for top in tops {
@@ -42,7 +48,13 @@ impl Reader {
         Ok(())
     }
 
-    fn statement(&self, levels: u32, words: Words, top: &Top, out: &mut Items<Event>) -> Result<(), OutOfMemory>
+    fn statement(
+        &self,
+        levels: u32,
+        words: Words,
+        top: &Top,
+        out: &mut Items<Event>,
+    ) -> Result<(), OutOfMemory>
         ensures { OnOk result (out.new ≡ spec.statement_said self.now.it (spec.expr_said self.now.it levels) (spec.stmt_said self.now.it levels) words top.now out.old) }
     {
         match top {
@@ -58,7 +70,13 @@ impl Reader {
         }
     }
 
-    fn others(&self, levels: u32, words: Words, tops: &[Top], out: &mut Items<Event>) -> Result<(), OutOfMemory>
+    fn others(
+        &self,
+        levels: u32,
+        words: Words,
+        tops: &[Top],
+        out: &mut Items<Event>,
+    ) -> Result<(), OutOfMemory>
         ensures { OnOk result (out.new ≡ spec.each (spec.other_said self.now.it (spec.expr_said self.now.it levels) (spec.stmt_said self.now.it levels) words) tops.now out.old) }
     {
         for top in tops {
@@ -67,7 +85,13 @@ impl Reader {
         Ok(())
     }
 
-    fn other(&self, levels: u32, words: Words, top: &Top, out: &mut Items<Event>) -> Result<(), OutOfMemory>
+    fn other(
+        &self,
+        levels: u32,
+        words: Words,
+        top: &Top,
+        out: &mut Items<Event>,
+    ) -> Result<(), OutOfMemory>
         ensures { OnOk result (out.new ≡ spec.other_said self.now.it (spec.expr_said self.now.it levels) (spec.stmt_said self.now.it levels) words top.now out.old) }
     {
         match top {
@@ -84,7 +108,12 @@ impl Reader {
         }
     }
 
-    fn members(&self, levels: u32, members: &[Member], out: &mut Items<Event>) -> Result<(), OutOfMemory>
+    fn members(
+        &self,
+        levels: u32,
+        members: &[Member],
+        out: &mut Items<Event>,
+    ) -> Result<(), OutOfMemory>
         ensures { OnOk result (out.new ≡ spec.each (spec.class_member_said self.now.it (spec.expr_said self.now.it levels) (spec.stmt_said self.now.it levels)) members.now out.old) }
     {
         for member in members {
@@ -93,7 +122,12 @@ impl Reader {
         Ok(())
     }
 
-    fn member(&self, levels: u32, member: &Member, out: &mut Items<Event>) -> Result<(), OutOfMemory>
+    fn member(
+        &self,
+        levels: u32,
+        member: &Member,
+        out: &mut Items<Event>,
+    ) -> Result<(), OutOfMemory>
         ensures { OnOk result (out.new ≡ spec.class_member_said self.now.it (spec.expr_said self.now.it levels) (spec.stmt_said self.now.it levels) member.now out.old) }
     {
         match member {
@@ -103,7 +137,12 @@ impl Reader {
         }
     }
 
-    fn method(&self, levels: u32, method: &Method, out: &mut Items<Event>) -> Result<(), OutOfMemory>
+    fn method(
+        &self,
+        levels: u32,
+        method: &Method,
+        out: &mut Items<Event>,
+    ) -> Result<(), OutOfMemory>
         ensures { OnOk result (out.new ≡ spec.method_said self.now.it (spec.expr_said self.now.it levels) (spec.stmt_said self.now.it levels) method.now out.old) }
     {
         answer(method.answer, out)?;
@@ -114,7 +153,12 @@ impl Reader {
         Ok(())
     }
 
-    fn constructor(&self, levels: u32, constructor: &Constructor, out: &mut Items<Event>) -> Result<(), OutOfMemory>
+    fn constructor(
+        &self,
+        levels: u32,
+        constructor: &Constructor,
+        out: &mut Items<Event>,
+    ) -> Result<(), OutOfMemory>
         ensures { OnOk result (out.new ≡ spec.constructor_said self.now.it (spec.expr_said self.now.it levels) (spec.stmt_said self.now.it levels) constructor.now out.old) }
     {
         out.push(Event::Open(Scope::Constructor))?;
@@ -125,7 +169,12 @@ impl Reader {
     }
 
     // The statements of a constructor.
-    fn constructed(&self, levels: u32, stmts: &[Stmt], out: &mut Items<Event>) -> Result<(), OutOfMemory>
+    fn constructed(
+        &self,
+        levels: u32,
+        stmts: &[Stmt],
+        out: &mut Items<Event>,
+    ) -> Result<(), OutOfMemory>
         ensures { OnOk result (out.new ≡ spec.constructed_said self.now.it (spec.expr_said self.now.it levels) (spec.stmt_said self.now.it levels) stmts.now out.old) }
     {
         match stmts {
@@ -138,7 +187,12 @@ impl Reader {
     }
 
     // The statement that begins a constructor.
-    fn first_stmt(&self, levels: u32, stmt: &Stmt, out: &mut Items<Event>) -> Result<(), OutOfMemory>
+    fn first_stmt(
+        &self,
+        levels: u32,
+        stmt: &Stmt,
+        out: &mut Items<Event>,
+    ) -> Result<(), OutOfMemory>
         ensures { OnOk result (out.new ≡ spec.first_stmt_said self.now.it (spec.expr_said self.now.it levels) (spec.stmt_said self.now.it levels) stmt.now (out-Stmt stmt.now) out.old) }
     {
         match stmt {
@@ -159,7 +213,13 @@ impl Reader {
         }
     }
 
-    fn field(&self, levels: u32, class: VarType, vars: &[Var], out: &mut Items<Event>) -> Result<(), OutOfMemory>
+    fn field(
+        &self,
+        levels: u32,
+        class: VarType,
+        vars: &[Var],
+        out: &mut Items<Event>,
+    ) -> Result<(), OutOfMemory>
         ensures { OnOk result (out.new ≡ spec.field_said self.now.it (spec.expr_said self.now.it levels) (spec.stmt_said self.now.it levels) class vars.now out.old) }
     {
         written(class, out)?;
@@ -182,5 +242,9 @@ impl Reader {
 fn method_scope(is_static: bool) -> Scope
     ensures { result ≡ spec.method_scope is_static }
 {
-    if is_static { Scope::StaticMethod } else { Scope::Method }
+    if is_static {
+        Scope::StaticMethod
+    } else {
+        Scope::Method
+    }
 }

@@ -35,7 +35,10 @@ pub(crate) fn written(class: VarType, out: &mut Items<Event>) -> Result<(), OutO
     }
 }
 
-pub(crate) fn maybe_written(class: Option<VarType>, out: &mut Items<Event>) -> Result<(), OutOfMemory>
+pub(crate) fn maybe_written(
+    class: Option<VarType>,
+    out: &mut Items<Event>,
+) -> Result<(), OutOfMemory>
     ensures { OnOk result (out.new ≡ spec.if_there spec.written_said class out.old) }
 {
     match class {
