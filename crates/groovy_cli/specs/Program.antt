@@ -23,6 +23,9 @@ use Rattle.gv_meaning.specs.declared.world.Why.{Why}
 use Rattle.gv_meaning.specs.declared.world.Why.TheVariants.{Ticks, Cells, Depth}
 use Rattle.gv_meaning.specs.declared.world.World.{World}
 use Rattle.gv_scopes.specs.Core.{unit_of}
+use Rattle.gv_checks.specs.Checks as checks
+use Rattle.gv_checks.specs.Checks.{refusal_of}
+use Rattle.gv_checks.specs.declared.known.Known.{Known as CheckNames}
 use Rattle.gv_scopes.specs.Known.{AreKnown, with_known}
 use Rattle.gv_scopes.specs.declared.known.Known.{Known}
 use Rattle.gv_simulate.specs.Report.{report_of}
@@ -83,12 +86,19 @@ abbrev pub said_of : Limits → List (List ℕ) → List ℕ → Option (List So
 said_of limits names texts None = Err not_built
 said_of limits names texts (Some unit) = Ok (report_of (meaning unit (first_world names texts limits)))
 
+-- the names of a file's tokens, and those that the rules speak of
+abbrev pub with_all : List (List ℕ) → List (List ℕ)
+with_all names = with_known (checks.with_known names)
+
 -- what a file's bytes say: a refusal of them, or what their script does within the limits
 pub data Says (limits : Limits) (bytes : List ℕ) : Result Report Refusal → Type 0 where
   no_tokens : {r : Refusal} → lexed 0 bytes ≡ Err r → Says limits bytes (Err r)
   no_tree : {names : List (List ℕ)} {tokens : List Token} {r : Refusal} → Lexes bytes names tokens → Parses (Err (Refused r)) tokens → Says limits bytes (Err r)
-  a_tree : {names : List (List ℕ)} {tokens : List Token} {s : Script} {known : Known} → Lexes bytes names tokens → Parses (Ok s) tokens → AreKnown (with_known names) known
-      → Says limits bytes (said_of limits (with_known names) (texts_behind [] tokens) (unit_of known s))
+  a_refused_tree : {names : List (List ℕ)} {tokens : List Token} {s : Script} {rules : CheckNames} {r : Refusal} → Lexes bytes names tokens → Parses (Ok s) tokens
+      → checks.AreKnown names rules → refusal_of rules s ≡ Some r → Says limits bytes (Err r)
+  a_tree : {names : List (List ℕ)} {tokens : List Token} {s : Script} {rules : CheckNames} {known : Known} → Lexes bytes names tokens → Parses (Ok s) tokens
+      → checks.AreKnown names rules → refusal_of rules s ≡ None → AreKnown (with_all names) known
+      → Says limits bytes (said_of limits (with_all names) (texts_behind [] tokens) (unit_of known s))
 
 -- ---- the lines of `err`
 

@@ -6,6 +6,7 @@ ghost use Rattle.groovy_cli.specs.Program.{first_world, not_built};
 
 use crate::texts::texts_of;
 use gv_base::{Limits, Name, Names, OutOfMemory, Place, Refusal, RefusalKind};
+use gv_checks::{Known as CheckNames, first_refusal};
 use gv_classes::Classes;
 use gv_core::Source;
 use gv_lex::{LexError, lex};
@@ -69,6 +70,10 @@ fn script_answer(alloc: Global, script: &[u8], limits: Limits) -> Result<Answer,
         Err(ParseError::Refused(refusal)) => return Ok(Answer::Refused(refusal)),
         Err(ParseError::OutOfMemory) => return Err(OutOfMemory),
     };
+    let rules = CheckNames::new(&mut names)?;
+    if let Some(refusal) = first_refusal(alloc, &rules, &tree)? {
+        return Ok(Answer::Refused(refusal));
+    }
     let known = Known::new(&mut names)?;
     let unit = match resolve(alloc, known, &tree)? {
         Some(unit) => unit,
