@@ -1,8 +1,8 @@
 -- A list that grows, and calls that take no cell.
-use Rattle.std.proofs.Common.{zero, suc, Option, slice_get, slice_set, append-nil, ◌≡◌, ℕ, ◌+◌, ◌-◌, List, [], ◌∷◌, ◌++◌, length, Some, refl, ap, sym, subst, append_assoc, length-append, ◌∙◌, arith}
+use Rattle.std.proofs.Common.{zero, suc, Option, slice_get, slice_set, append-nil, ◌≡◌, ℕ, ◌-◌, List, [], ◌∷◌, ◌++◌, length, Some, refl, ap, sym, subst, append_assoc, length-append, ◌∙◌, arith}
 use Rattle.gv_base.specs.declared.value.Value.{Value}
 use Rattle.gv_heap.proofs.CallerLemmas.{object_at-with_list, slice_set-slice_set}
-use Rattle.gv_heap.specs.Heap.{HeapState, list_at, object_at, pay, with_list, with_object}
+use Rattle.gv_heap.specs.Heap.{HeapState, list_at, object_at}
 use Rattle.gv_heap.specs.Kinds.{IsListObject, elements_of}
 use Rattle.gv_heap.specs.declared.object.Object.{Object}
 use Rattle.gv_heap.specs.declared.object.Object.TheVariants.{List as ListObject}

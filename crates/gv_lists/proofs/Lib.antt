@@ -1,3 +1,4 @@
 pub mod Heaps
 pub mod Lists
+pub mod Runs
 pub mod Texts

@@ -1,5 +1,5 @@
 -- Parts of lists, and lists that are repeated.
-use Rattle.std.proofs.Common.{map, Some, slice_get, ◌≡◌, ℕ, zero, suc, ◌+◌, ◌*◌, ◌-◌, List, [], ◌∷◌, ◌++◌, length, take, drop, min, refl, ap, sym, add-one, append_assoc, length-append, append-nil, ◌∙◌, arith}
+use Rattle.std.proofs.Common.{Some, slice_get, ◌≡◌, ℕ, zero, suc, ◌+◌, ◌*◌, ◌-◌, List, [], ◌∷◌, ◌++◌, length, take, drop, min, refl, ap, sym, add-one, append_assoc, length-append, append-nil, ◌∙◌, arith}
 use Rattle.std.proofs.lemmas.List.{drop_min, take_rest}
 use Rattle.gv_base.specs.declared.value.Value.{Value}
 use Rattle.gv_lists.specs.Joining.{repeated}

@@ -1,5 +1,5 @@
 -- What the rows of a list answer that only read it. Its elements are those of a List or of a Range.
-use Rattle.std.specs.Prelude.{ℕ, ℤ, pos, ◌-◌, ◌==◌, List, [], ◌∷◌, length, map, take, drop, reverse, slice_get, Option, Some, None, unwrap_or}
+use Rattle.std.specs.Prelude.{◌≡◌, ℕ, ℤ, pos, negsuc, Bool, ◌-◌, ◌==◌, List, [], ◌∷◌, length, map, take, drop, reverse, slice_get, Option, Some, None, unwrap_or}
 use Rattle.std.specs.Option.{option_or}
 use Rattle.gv_base.specs.declared.value.Value.{Value}
 use Rattle.gv_base.specs.declared.value.Value.TheVariants.{Null, Bool as Truth, Int, Obj}
@@ -7,7 +7,7 @@ use Rattle.gv_heap.specs.Heap.{HeapState, object_at}
 use Rattle.gv_heap.specs.declared.object.Object.{Object}
 use Rattle.gv_heap.specs.declared.object.Object.TheVariants as object
 use Rattle.gv_rows.specs.Reply.{Reply, just, new_list}
-use Rattle.gv_rows.specs.Values.{from_end, integer_of, natural, number_in, walked}
+use Rattle.gv_rows.specs.Values.{from_end, integer_of, natural, number_in, numbers, walked}
 use Rattle.gv_lists.specs.Throwing.{outside, of_empty, bad_places}
 use Rattle.gv_lists.specs.declared.faults.Fault.{Fault}
 use Rattle.gv_lists.specs.declared.faults.Fault.TheVariants.{NoNumber, Before}
@@ -108,6 +108,14 @@ first_fault size (item ∷ rest) = option_or (item_fault size (number_in item)) 
 abbrev pub walk_fault : List ℤ → Option Fault
 walk_fault [] = None
 walk_fault (n ∷ rest) = option_or (before n (natural n)) (walk_fault rest)
+
+-- places one after the other, up or down
+abbrev pub IsRun : List ℤ → Type 0
+IsRun places = (count : ℕ) × (down : Bool) × (first : ℤ) × (places ≡ numbers count down first)
+
+-- the first fault of a run from its first place to its last: behind its first place it comes to -1 first
+abbrev pub fault_between : ℤ → ℤ → Option Fault
+fault_between first last = option_or (before first (natural first)) (before (negsuc 0) (natural last))
 
 -- what a fault among so many elements throws; it decides before anything is read
 abbrev pub fault_reply : ℕ → Fault → Reply

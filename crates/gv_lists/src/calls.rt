@@ -1,9 +1,9 @@
-ghost use Rattle.std.specs.Prelude.{◌≡◌, true, false};
+ghost use Rattle.std.specs.Prelude.{◌≡◌, ◌&&◌, true, false};
 ghost use Rattle.gv_heap.specs.Heap.{object_at};
 ghost use Rattle.gv_heap.specs.Kinds.{IsListObject};
 ghost use Rattle.gv_natives.specs.Table.{method_of};
 ghost use Rattle.gv_natives.specs.declared.kinds.Kind.TheVariants as kind;
-ghost use Rattle.gv_rows.specs.Reply.{Did};
+ghost use Rattle.gv_rows.specs.Reply.{Did, unless_null, unless_range};
 ghost use Rattle.gv_rows.specs.Takes as takes;
 ghost use Rattle.gv_lists.specs.Rows as spec;
 
@@ -45,13 +45,29 @@ fn call_row(alloc: Global, heap: &mut Heap, row: &Row, list: ObjId, args: &[Valu
     requires { takes.is_sequence (object_at heap.old list) ≡ true }
     ensures { Did heap.old (spec.list_reply heap.old (method_of row.now) list args.now) result heap.new }
 {
-    if lacks_one(row, args) {
-        return null_argument(alloc, row.name);
+    let is_null = lacks_one(row, args);
+    call_unless_null(alloc, heap, row.name, list, args, is_null)
+}
+
+/// A call of the row of a name, where it is known whether null is given for a kind.
+fn call_unless_null(
+    alloc: Global,
+    heap: &mut Heap,
+    name: &str,
+    list: ObjId,
+    args: &[Value],
+    is_null: bool,
+) -> Done
+    requires { takes.is_sequence (object_at heap.old list) ≡ true }
+    ensures { Did heap.old (unless_null name.now is_null (unless_range name.now (spec.writes name.now && takes.is_range (object_at heap.old list)) (spec.row_reply heap.old name.now list args.now))) result heap.new }
+{
+    if is_null {
+        return null_argument(alloc, name);
     }
-    if writes(row.name) && is_range(heap, list) {
-        return on_a_range(alloc, row.name);
+    if writes(name) && is_range(heap, list) {
+        return on_a_range(alloc, name);
     }
-    run_row(alloc, heap, row.name, list, args)
+    run_row(alloc, heap, name, list, args)
 }
 
 /// Whether a row changes its list.

@@ -7,7 +7,7 @@ ghost use Rattle.gv_rows.specs.Values.{sequence_at};
 ghost use Rattle.gv_lists.specs.Joining as spec;
 
 use crate::answers::answer;
-use crate::parts::is_too_dear;
+use crate::parts::{is_product_too_dear, is_sum_too_dear};
 use crate::throwing::throw_negative;
 use gv_base::{ObjId, OutOfMemory, Value};
 use gv_heap::{Heap, Object};
@@ -45,10 +45,7 @@ fn plus_one(alloc: Global, heap: &mut Heap, list: ObjId, x: Value) -> Done
     ensures { Did heap.old (reply.new_list heap.old (sequence_at heap.old list ++ x ∷ [])) result heap.new }
 {
     let items = Sequence::at(heap, list);
-    let Some(count) = items.len().checked_add(1) else {
-        return Done::OutOfMemory;
-    };
-    if is_too_dear(heap, count) {
+    if is_sum_too_dear(heap, items.len(), 1) {
         return Done::CellsSpent;
     }
     match with_last(alloc, &items, x) {
@@ -70,10 +67,7 @@ fn plus_sequence(alloc: Global, heap: &mut Heap, list: ObjId, other: ObjId) -> D
 {
     let items = Sequence::at(heap, list);
     let more = Sequence::at(heap, other);
-    let Some(count) = items.len().checked_add(more.len()) else {
-        return Done::OutOfMemory;
-    };
-    if is_too_dear(heap, count) {
+    if is_sum_too_dear(heap, items.len(), more.len()) {
         return Done::CellsSpent;
     }
     match joined(alloc, &items, &more) {
@@ -115,10 +109,7 @@ fn new_repeated(alloc: Global, heap: &mut Heap, list: ObjId, count: usize) -> Do
     ensures { Did heap.old (reply.new_list heap.old (spec.repeated count (sequence_at heap.old list))) result heap.new }
 {
     let items = Sequence::at(heap, list);
-    let Some(size) = count.checked_mul(items.len()) else {
-        return Done::OutOfMemory;
-    };
-    if is_too_dear(heap, size) {
+    if is_product_too_dear(heap, count, items.len()) {
         return Done::CellsSpent;
     }
     match repeated(alloc, &items, count) {

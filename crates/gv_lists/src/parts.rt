@@ -1,4 +1,4 @@
-ghost use Rattle.std.specs.Prelude.{◌≡◌, ◌+◌, ◌<◌, ◌≤◌, true, false, drop, length, reverse, take, IfOk};
+ghost use Rattle.std.specs.Prelude.{◌≡◌, ◌+◌, ◌*◌, ◌<◌, ◌≤◌, true, false, drop, length, reverse, take, IfOk};
 ghost use Rattle.gv_rows.specs.Reply.{Did};
 ghost use Rattle.gv_rows.specs.Reply as spec;
 ghost use Rattle.gv_rows.specs.Values.{sequence_at};
@@ -14,6 +14,26 @@ pub(crate) fn is_too_dear(heap: &Heap, count: usize) -> bool
     ensures no { result ≡ false → 1 + count ≤ heap.now.cells }
 {
     heap.cells_left() <= count as u64
+}
+
+/// The same for so many elements and so many more.
+pub(crate) fn is_sum_too_dear(heap: &Heap, count: usize, more: usize) -> bool
+    ensures yes { result ≡ true → heap.now.cells < 1 + (count + more) }
+    ensures no { result ≡ false → 1 + (count + more) ≤ heap.now.cells }
+{
+    u128::from(heap.cells_left()) <= count as u128 + more as u128
+}
+
+/// The same for so many elements so many times.
+pub(crate) fn is_product_too_dear(heap: &Heap, times: usize, count: usize) -> bool
+    ensures yes { result ≡ true → heap.now.cells < 1 + times * count }
+    ensures no { result ≡ false → 1 + times * count ≤ heap.now.cells }
+{
+    let cells = heap.cells_left();
+    match (times as u64).checked_mul(count as u64) {
+        Some(product) => cells <= product,
+        None => true,
+    }
 }
 
 /// Answers a new List of so many elements of a list from a place on, for its price.

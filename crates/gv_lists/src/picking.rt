@@ -1,5 +1,5 @@
 ghost use Rattle.std.specs.Prelude.{◌≡◌, ◌<◌, ◌^◌, length, map, option_copied, slice_get, IfOk, MatchResult, Some};
-ghost use Rattle.gv_heap.specs.Heap.{object_at};
+ghost use Rattle.gv_heap.specs.Heap.{HeapState, object_at};
 ghost use Rattle.gv_rows.specs.Reply.{Did};
 ghost use Rattle.gv_rows.specs.Reply as reply;
 ghost use Rattle.gv_rows.specs.Values.{number_in, sequence_at, walked};
@@ -51,7 +51,7 @@ fn read_items(alloc: Global, heap: &Heap, list: ObjId, places: &[Value]) -> Resu
     let items = Sequence::at(heap, list);
     let size = items.len();
     if let Some(fault) = first_fault(size, places) {
-        return Err(throw_fault(alloc, heap, size, fault));
+        return Err(throw_fault(alloc, size, fault));
     }
     if is_too_dear(heap, places.len()) {
         return Err(Done::CellsSpent);
@@ -63,8 +63,8 @@ fn read_items(alloc: Global, heap: &Heap, list: ObjId, places: &[Value]) -> Resu
 }
 
 /// What is thrown for a fault among so many elements.
-fn throw_fault(alloc: Global, _heap: &Heap, size: usize, fault: Fault) -> Done
-    ensures { Did _heap.now (spec.fault_reply size fault) result _heap.now }
+fn throw_fault(alloc: Global, size: usize, fault: Fault) -> Done
+    ensures { (heap : HeapState) → Did heap (spec.fault_reply size fault) result heap }
 {
     match fault {
         Fault::NoNumber => throw_bad_places(alloc),
@@ -139,6 +139,7 @@ fn read_range(alloc: Global, heap: &Heap, list: ObjId, range: &Range) -> Result<
 {
     let (first, last) = range.ends();
     let size = Sequence::at(heap, list).len();
+    // Each is shorter than 2^63, which Sequence doesn't say.
     if i64::try_from(size).is_err() {
         return Err(Done::OutOfMemory);
     }
@@ -146,14 +147,16 @@ fn read_range(alloc: Global, heap: &Heap, list: ObjId, range: &Range) -> Result<
     read_walk(alloc, heap, list, &walk)
 }
 
+/// The elements at the places of a walk, if none is before the start.
 fn read_walk(alloc: Global, heap: &Heap, list: ObjId, walk: &Walk) -> Result<Vec<Value>, Done>
+    requires { spec.IsRun walk.now }
     ensures { MatchResult result
         (λ items. spec.walk_reply heap.now (sequence_at heap.now list) walk.now ≡ reply.new_list heap.now items.items)
         (λ done. Did heap.now (spec.walk_reply heap.now (sequence_at heap.now list) walk.now) done heap.now) }
 {
     let items = Sequence::at(heap, list);
     if let Some(fault) = walk_fault(walk) {
-        return Err(throw_fault(alloc, heap, items.len(), fault));
+        return Err(throw_fault(alloc, items.len(), fault));
     }
     if is_too_dear(heap, walk.len() as usize) {
         return Err(Done::CellsSpent);
@@ -165,17 +168,28 @@ fn read_walk(alloc: Global, heap: &Heap, list: ObjId, walk: &Walk) -> Result<Vec
 }
 
 /// The first place of a walk that is before the start.
-#[tactic(auto, using(crate::proofs::Lists::drop_at))]
+#[tactic(auto, using(crate::proofs::Runs::faults))]
 fn walk_fault(walk: &Walk) -> Option<Fault>
+    requires { spec.IsRun walk.now }
     ensures { result ≡ spec.walk_fault walk.now }
 {
-    for at in 0..walk.len() {
-        let place = walk.get(at);
-        if let Some(fault) = before(place, natural(place)) {
-            return Some(fault);
-        }
+    let count = walk.len();
+    if count == 0 {
+        return None;
     }
-    None
+    let first = walk.get(0);
+    let last = walk.get(count - 1);
+    fault_between(first, last)
+}
+
+/// The first fault of a run from its first place to its last: behind its first place it comes to -1 first.
+fn fault_between(first: i64, last: i64) -> Option<Fault>
+    ensures { result ≡ spec.fault_between first last }
+{
+    match before(first, natural(first)) {
+        Some(fault) => Some(fault),
+        None => before(-1, natural(last)),
+    }
 }
 
 /// The elements at the places of a walk.

@@ -1,10 +1,9 @@
 -- The keys that are noted are as many as the cells that joining takes.
-use Rattle.std.proofs.Common.{◌≡◌, ℕ, ◌+◌, Bool, true, false, ◌||◌, cond, if◌then◌else◌, List, [], ◌∷◌, ◌++◌, length, length-append, is_some, unwrap_or, Some, refl, ap, sym, ◌∙◌, arith}
+use Rattle.std.proofs.Common.{◌≡◌, ◌+◌, Bool, true, false, ◌||◌, cond, if◌then◌else◌, List, [], ◌∷◌, ◌++◌, length, length-append, is_some, unwrap_or, Some, refl, ap, sym, ◌∙◌, arith}
 use Rattle.std.specs.List.{list_any}
 use Rattle.std.specs.Map.{lookup}
 use Rattle.std.proofs.lemmas.List.Folds.{list_any-append}
 use Rattle.indexmap.specs.IndexMap.{insert_entry}
-use Rattle.indexmap.specs.IndexSet.{insert_key}
 use Rattle.gv_heap.specs.Entries.{has_key, shown_at, with_entry}
 use Rattle.gv_heap.specs.Keys.{same_key, same_key_Decides}
 use Rattle.gv_heap.specs.Prices.{entry_price}
@@ -26,7 +25,7 @@ or_swap false b c = refl
 -- what is there already changes nothing
 or_known : (a b : Bool) → (b ≡ true → a ≡ true) → a ≡ (a || b)
 or_known true b h = refl
-or_known false true h = sym (sym (h refl))
+or_known false true h = h refl
 or_known false false h = refl
 
 -- ---- which keys are there
@@ -110,10 +109,11 @@ module _ (now entries : List (MapKey × Slot)) (keys : List MapKey) (k : MapKey)
   anew : known k ≡ false → (Agree (insert_entry same_key now k x) entries (keys ++ k ∷ [])) × (length (keys ++ k ∷ []) ≡ length keys + entry_price now k)
   anew h =
       let there : has_key now k ≡ false = agree k ∙ h in
-      let longer = length-append keys (k ∷ []) in
-      (λ q. among q ∙ sym (or_swap (has_key entries q) (list_any (same_key q) keys) (same_key q k))
-          ∙ ap (λ b. has_key entries q || b) (ap (λ b. list_any (same_key q) keys || b) (or_false (same_key q k)) ∙ sym (list_any-append (same_key q) keys (k ∷ []))),
-       rw there (omega arith))
+      let longer = length-append keys (k ∷ []) in (
+        λ q. among q ∙ sym (or_swap (has_key entries q) (list_any (same_key q) keys) (same_key q k))
+            ∙ ap (λ b. has_key entries q || b) (ap (λ b. list_any (same_key q) keys || b) (or_false (same_key q k)) ∙ sym (list_any-append (same_key q) keys (k ∷ []))),
+        rw there (omega arith),
+      )
 
   abbrev pub Noted : List MapKey → Type 0
   Noted after = (Agree (insert_entry same_key now k x) entries after) × (length after ≡ length keys + entry_price now k)

@@ -1,5 +1,5 @@
 -- Entries that are put in one after another, in a heap.
-use Rattle.std.proofs.Common.{◌≡◌, ℕ, zero, suc, ◌+◌, ◌-◌, ◌≤◌, List, [], ◌∷◌, ◌++◌, length, slice_get, slice_set, Option, Some, None, refl, ap, sym, subst, ◌∙◌, arith}
+use Rattle.std.proofs.Common.{◌≡◌, ℕ, zero, suc, ◌+◌, ◌-◌, ◌≤◌, List, [], ◌∷◌, ◌++◌, length, slice_get, slice_set, Some, refl, ap, sym, subst, ◌∙◌, arith}
 use Rattle.gv_heap.specs.Entries.{with_entry}
 use Rattle.gv_heap.specs.Heap.{HeapState, object_at, map_at, pay, with_map, with_new}
 use Rattle.gv_heap.specs.Kinds.{IsMapObject, entries_of}
@@ -63,10 +63,11 @@ pub put_next : (heap new : HeapState) (id : ℕ) (e : MapKey × Slot) (rest othe
     → new ≡ pay (with_map heap id (with_entry (map_at heap id) e.0 e.1.shown e.1.value)) (entry_price (map_at heap id) e.0)
     → IsMapObject (object_at new id) × (join_price (map_at new id) others ≤ new.cells) × (joined_heap new id others ≡ joined_heap heap id rest)
 put_next heap new id e rest others is_map fits r n =
-    let here : join_price (map_at heap id) (e ∷ others) ≤ heap.cells = subst (λ xs. join_price (map_at heap id) xs ≤ heap.cells) r fits in
-    (subst (λ h. IsMapObject (object_at h id)) (sym n) (kind_next heap id e others is_map),
-     subst (λ h. join_price (map_at h id) others ≤ h.cells) (sym n) (fits_next heap id e others is_map here),
-     ap (λ h. joined_heap h id others) n ∙ joined_next heap id e others is_map ∙ ap (joined_heap heap id) (sym r))
+    let here : join_price (map_at heap id) (e ∷ others) ≤ heap.cells = subst (λ xs. join_price (map_at heap id) xs ≤ heap.cells) r fits in (
+      subst (λ h. IsMapObject (object_at h id)) (sym n) (kind_next heap id e others is_map),
+      subst (λ h. join_price (map_at h id) others ≤ h.cells) (sym n) (fits_next heap id e others is_map here),
+      ap (λ h. joined_heap h id others) n ∙ joined_next heap id e others is_map ∙ ap (joined_heap heap id) (sym r),
+    )
 
 pub none_left : (items : List (MapKey × Slot)) → length items ≡ 0 → items ≡ []
 none_left [] h = refl
@@ -109,5 +110,5 @@ module _ (heap : HeapState) (others : List (MapKey × Slot)) where
       let price = price_made in
       let fits : join_price (map_at made (length heap.objects)) others ≤ made.cells = omega arith in
       subst (λ k. IsMapObject (object_at new k) × (join_price (map_at new k) others ≤ new.cells) × (joined_heap new k others ≡ pay (with_new heap (MapObject (joined [] others))) (1 + length (joined [] others)))) (sym i)
-          (subst (λ g. IsMapObject (object_at g (length heap.objects)) × (join_price (map_at g (length heap.objects)) others ≤ g.cells) × (joined_heap g (length heap.objects) others ≡ pay (with_new heap (MapObject (joined [] others))) (1 + length (joined [] others)))) (sym n)
-              (kind_made, fits, joined_made))
+      (subst (λ g. IsMapObject (object_at g (length heap.objects)) × (join_price (map_at g (length heap.objects)) others ≤ g.cells) × (joined_heap g (length heap.objects) others ≡ pay (with_new heap (MapObject (joined [] others))) (1 + length (joined [] others)))) (sym n)
+      (kind_made, fits, joined_made))

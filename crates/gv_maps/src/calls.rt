@@ -181,14 +181,7 @@ fn of_key(heap: &mut Heap, name: &str, id: ObjId, key: &MapKey) -> Done
     }
 }
 
-fn of_key_and_value(
-    heap: &mut Heap,
-    name: &str,
-    id: ObjId,
-    key: MapKey,
-    x: Value,
-    y: Value,
-) -> Done
+fn of_key_and_value(heap: &mut Heap, name: &str, id: ObjId, key: MapKey, x: Value, y: Value) -> Done
     requires { IsMapObject (object_at heap.old id) }
     ensures { Did heap.old (spec.row_with_value heap.old name.now id key x y) result heap.new }
 {

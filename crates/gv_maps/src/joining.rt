@@ -80,11 +80,7 @@ fn sum(alloc: Global, heap: &mut Heap, id: ObjId, m: Value) -> Result<ObjId, Hea
 }
 
 /// Makes a map and puts these items into it, once their price is known to be left.
-fn make_of(
-    alloc: Global,
-    heap: &mut Heap,
-    items: Vec<(MapKey, Slot)>,
-) -> Result<ObjId, HeapError>
+fn make_of(alloc: Global, heap: &mut Heap, items: Vec<(MapKey, Slot)>) -> Result<ObjId, HeapError>
     ensures { spec.MakesMap heap.old (spec.joined [] items.items) result heap.new }
 {
     let price = price_of_map(alloc, items.as_slice())?;

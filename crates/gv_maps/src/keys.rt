@@ -8,13 +8,7 @@ use gv_rows::{Done, class_name, class_of, throw_joined};
 use std::alloc::Global;
 
 /// Throws what a value throws that can't be a key.
-pub(crate) fn no_key(
-    alloc: Global,
-    names: &Names,
-    classes: &Classes,
-    heap: &Heap,
-    x: Value,
-) -> Done
+pub(crate) fn no_key(alloc: Global, names: &Names, classes: &Classes, heap: &Heap, x: Value) -> Done
     ensures { Did heap.now (spec.no_key names.now classes.now heap.now x) result heap.now }
 {
     let class = class_name(names, classes, class_of(heap, x));

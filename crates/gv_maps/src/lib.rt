@@ -25,3 +25,5 @@ mod writing;
 
 pub use calls::call_map;
 
+#[cfg(test)]
+mod tests;

@@ -11,10 +11,7 @@ use std::alloc::Global;
 
 /// What a new map with these items costs: a cell, and one for each entry that it then has.
 #[tactic(auto, using(crate::proofs::Counts::length_joined))]
-pub(crate) fn price_of_map(
-    alloc: Global,
-    items: &[(MapKey, Slot)],
-) -> Result<u64, OutOfMemory>
+pub(crate) fn price_of_map(alloc: Global, items: &[(MapKey, Slot)]) -> Result<u64, OutOfMemory>
     ensures { IfOk result (λ n. n ≡ 1 + length (joined [] items.now)) }
 {
     Ok(1 + count_new(alloc, None, items)?)

@@ -1,0 +1,6 @@
+mod joining;
+mod keys;
+mod reading;
+mod takes;
+mod world;
+mod writing;
