@@ -22,7 +22,11 @@ fn refused(alloc: Global, script: &str) -> Result<(u8, u32, u32), Fail> {
     };
     let known = Known::new(&mut names)?;
     match first_refusal(alloc, &known, &tree)? {
-        Some(refusal) => Ok((refusal.kind.number(), refusal.place.line, refusal.place.column)),
+        Some(refusal) => Ok((
+            refusal.kind.number(),
+            refusal.place.line,
+            refusal.place.column,
+        )),
         None => Ok((0, 0, 0)),
     }
 }

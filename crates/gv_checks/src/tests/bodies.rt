@@ -18,7 +18,10 @@ fn names_declared_twice(rt: HostRuntime) -> Result<(), Fail> {
         ("class A { def m(x) { def x = 1 } }", (20, 1, 26)),
         ("if (true) { def a = 1 } else { def a = 2 }", (0, 0, 0)),
         ("while (true) { def a = 1; break }\ndef a = 2", (0, 0, 0)),
-        ("switch (1) { case 1: def a = 1; break\ncase 2: def a = 2 }", (0, 0, 0)),
+        (
+            "switch (1) { case 1: def a = 1; break\ncase 2: def a = 2 }",
+            (0, 0, 0),
+        ),
     ];
     for (script, wanted) in table {
         assert_eq!(rt; refused(rt.alloc(), script)?, wanted, "{script}");
@@ -50,7 +53,10 @@ fn nothing_to_leave(rt: HostRuntime) -> Result<(), Fail> {
         ("switch (1) { case 1: continue }", (28, 1, 22)),
         ("switch (1) { case 1: break }", (0, 0, 0)),
         ("def f() { break }", (28, 1, 11)),
-        ("while (true) { switch (1) { default: continue } }", (0, 0, 0)),
+        (
+            "while (true) { switch (1) { default: continue } }",
+            (0, 0, 0),
+        ),
         ("while (true) { if (1) { break } }", (0, 0, 0)),
         ("if (true) { break }", (28, 1, 13)),
         ("for (i in 1..2) break\nbreak", (28, 2, 1)),

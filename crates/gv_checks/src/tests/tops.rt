@@ -47,9 +47,18 @@ fn unknown_annotations(rt: HostRuntime) -> Result<(), Fail> {
     let table = [
         ("@Foo class A { }", (21, 1, 1)),
         ("@ToString class A { }", (21, 1, 1)),
-        ("import groovy.transform.ToString\n@ToString class A { }", (0, 0, 0)),
-        ("import groovy.transform.*\n@EqualsAndHashCode class A { }", (0, 0, 0)),
-        ("import groovy.transform.ToString\n@TupleConstructor class A { }", (21, 2, 1)),
+        (
+            "import groovy.transform.ToString\n@ToString class A { }",
+            (0, 0, 0),
+        ),
+        (
+            "import groovy.transform.*\n@EqualsAndHashCode class A { }",
+            (0, 0, 0),
+        ),
+        (
+            "import groovy.transform.ToString\n@TupleConstructor class A { }",
+            (21, 2, 1),
+        ),
         ("@groovy.transform.ToString class A { }", (0, 0, 0)),
         ("@groovy.lang.ToString class A { }", (21, 1, 1)),
         ("class A { @ToString def m() { 1 } }", (21, 1, 11)),
@@ -73,7 +82,10 @@ fn annotations_out_of_place(rt: HostRuntime) -> Result<(), Fail> {
         ("class A { @Delegate private List p }", (27, 1, 11)),
         ("class A { @Delegate def m() { 1 } }", (27, 1, 11)),
         ("@Lazy def x = 1", (27, 1, 1)),
-        ("import groovy.transform.Field\nclass A { @Field def x }", (27, 2, 11)),
+        (
+            "import groovy.transform.Field\nclass A { @Field def x }",
+            (27, 2, 11),
+        ),
         ("@groovy.transform.Field @Lazy def x = 1", (27, 1, 25)),
     ];
     for (script, wanted) in table {
