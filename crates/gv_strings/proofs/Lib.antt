@@ -1,0 +1,5 @@
+pub mod Made
+pub mod Places
+pub mod Said
+pub mod Sizes
+pub mod Steps

@@ -1,0 +1,7 @@
+mod cases;
+mod lists;
+mod making;
+mod reading;
+mod takes;
+mod throwing;
+mod world;
