@@ -1,6 +1,6 @@
--- The refusals of what stands at the top of a script and in its classes. Each definition takes the first refusal that was found
--- before, and gives the first one then.
-use Rattle.std.specs.Prelude.{ℕ, Bool, ◌==◌, ◌&&◌, ◌||◌, false, List, [], ◌∷◌, Option, Some, None, if◌then◌else◌}
+-- The refusals of what stands at the top of a script and in its classes. Each definition takes the first refusal that
+-- was found before, and gives the first one then.
+use Rattle.std.specs.Prelude.{Bool, ◌==◌, ◌&&◌, ◌||◌, false, List, [], ◌∷◌, Option, Some, None, if◌then◌else◌}
 use Rattle.std.specs.List.{list_any}
 use Rattle.gv_base.specs.declared.refusal.Place.{Place}
 use Rattle.gv_base.specs.declared.refusal.Refusal.{Refusal}
@@ -21,7 +21,7 @@ use Rattle.gv_tree.specs.declared.top.Method.{Method}
 use Rattle.gv_tree.specs.declared.top.Script.{Script}
 use Rattle.gv_tree.specs.declared.top.Top.{Top}
 use Rattle.gv_tree.specs.declared.top.Top.TheVariants as top
-use Rattle.gv_tops.specs.Transforms.{named, named_in_full, is_in_profile, imported_of, annotation_of, declares_properties, target_of, may_stand}
+use Rattle.gv_tops.specs.Transforms.{is_in_profile, imported_of, annotation_of, declares_properties, target_of, may_stand}
 use Rattle.gv_tops.specs.declared.imports.Imported.{Imported}
 use Rattle.gv_tops.specs.declared.known.Known.{Known}
 use Rattle.gv_tops.specs.declared.target.Target.{Target}

@@ -155,7 +155,7 @@ const KNOWN_ONES: [(&[Name], bool, &[Name], Option<Transform>); 33] = [
     (&[G, T], true, &[OTHER], None),
 ];
 
-// An annotation's names, and whether it may stand on a class, on a property, on a declaration at the top, and elsewhere.
+// An annotation's names, and whether it may stand on a class, a property, a declaration at the top, and elsewhere.
 const TARGETS: [(&[Name], bool, bool, bool, bool); 7] = [
     (&[G, T, TO_STRING], true, false, false, false),
     (&[G, T, EQUALS], true, false, false, false),
@@ -202,8 +202,8 @@ const STATIC: Modifiers = Modifiers {
     ..PLAIN
 };
 
-// A piece, its annotation or none, its name, what is imported in line 2 with `.*`, and the refusal: its kind and column in
-// line 1, or none.
+// A piece, its annotation or none, its name, what is imported in line 2 with `.*`, and the refusal: its kind, and its
+// column in line 1.
 const SCRIPTS: [(Piece, &[Name], Name, &[Name], Option<(RefusalKind, u32)>); 24] = [
     (Piece::Declaration, &[FIELD], OTHER, &[G, T], None),
     (
