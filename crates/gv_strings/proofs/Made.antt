@@ -1,5 +1,5 @@
 -- Strings that are made one after the other.
-use Rattle.std.proofs.Common.{◌≡◌, ℕ, ◌+◌, ◌-◌, ◌≤◌, List, [], ◌∷◌, ◌++◌, length, map, refl, ap, sym, append-nil, append_assoc, length-append, ◌∙◌, arith}
+use Rattle.std.proofs.Common.{◌≡◌, ℕ, ◌+◌, ◌-◌, ◌≤◌, List, [], ◌∷◌, ◌++◌, length, map, refl, ap, append-nil, append_assoc, length-append, ◌∙◌, arith}
 use Rattle.std.proofs.lemmas.List.{length-map}
 use Rattle.gv_base.specs.declared.value.Value.{Value}
 use Rattle.gv_base.specs.declared.value.Value.TheVariants.{Obj}

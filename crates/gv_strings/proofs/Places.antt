@@ -1,5 +1,5 @@
 -- Places of a text that can be read are inside.
-use Rattle.std.proofs.Common.{◌≡◌, ℕ, ℤ, pos, ◌<◌, nat_lt, List, [], ◌∷◌, map, Option, Some, None, unwrap_or, refl, arith, All}
+use Rattle.std.proofs.Common.{◌≡◌, ℕ, ℤ, pos, ◌<◌, List, [], ◌∷◌, map, Option, Some, None, unwrap_or, refl, arith, All}
 use Rattle.std.specs.Option.{option_or}
 use Rattle.std.proofs.lemmas.Bool.Decides.{nat_tests}
 use Rattle.std.proofs.lemmas.List.Elements.{All-cons, All-nil}

@@ -1,5 +1,5 @@
 -- How many bytes a text has that is repeated or padded.
-use Rattle.std.proofs.Common.{◌≡◌, ℕ, zero, suc, ◌<◌, ◌≤◌, ◌-◌, ◌+◌, ◌*◌, ◌/◌, List, [], ◌∷◌, ◌++◌, length, take, min, encode_utf8_all, IsUtf8, sym, ap, ◌∙◌, refl, arith, length-append}
+use Rattle.std.proofs.Common.{◌≡◌, ℕ, zero, suc, ◌<◌, ◌≤◌, ◌-◌, ◌+◌, ◌*◌, ◌/◌, List, [], ◌∷◌, length, encode_utf8_all, IsUtf8, sym, ap, ◌∙◌, arith, length-append}
 use Rattle.std.specs.Str.{chars}
 use Rattle.std.proofs.lemmas.Str.{length-le-encodes, encodes-append, encodes-chars}
 use Rattle.std.proofs.lemmas.List.{length-take}
