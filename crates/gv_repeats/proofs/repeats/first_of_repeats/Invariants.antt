@@ -1,4 +1,4 @@
-use Rattle.std.proofs.Common.{◌≡◌, [], drop}
+use Rattle.std.proofs.Common.{◌≡◌, drop}
 use Rattle.gv_repeats.specs.Repeats as spec
 use Rattle.gv_repeats.proofs.repeats.first_of_repeats.Given as goal
 

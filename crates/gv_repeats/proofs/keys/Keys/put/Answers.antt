@@ -1,4 +1,4 @@
-use Rattle.std.proofs.Common.{◌≡◌, refl, not, ap, sym, ◌∙◌, nat_eq, map}
+use Rattle.std.proofs.Common.{refl, not, ap, sym, ◌∙◌, nat_eq, map}
 use Rattle.std.specs.Cmp.Lexicographic.{pointwise}
 use Rattle.gv_base.proofs.Tables.{list_any-map}
 use Rattle.gv_repeats.proofs.Sets.{with_key-map}
