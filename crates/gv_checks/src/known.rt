@@ -10,6 +10,7 @@ pub struct Known {
     /// `it`
     pub it: Name,
     pub tops: gv_tops::Known,
+    pub declare: gv_declare::Known,
 }
 
 impl Known {
@@ -20,7 +21,8 @@ impl Known {
     {
         let it = names.intern("it")?;
         let tops = gv_tops::Known::new(names)?;
-        Ok(Known { it, tops })
+        let declare = gv_declare::Known::new(names)?;
+        Ok(Known { it, tops, declare })
     }
 
     pub(crate) fn words(self) -> Words

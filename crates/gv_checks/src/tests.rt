@@ -1,7 +1,8 @@
 mod bodies;
+mod classes;
 mod tops;
 
-use crate::{Known, first_refusal};
+use crate::{Known, declared_classes, first_refusal};
 use gv_base::Names;
 use gv_lex::lex;
 use gv_stmts::parse;
@@ -21,7 +22,9 @@ fn refused(alloc: Global, script: &str) -> Result<(u8, u32, u32), Fail> {
         return Ok((10, 0, 0));
     };
     let known = Known::new(&mut names)?;
-    match first_refusal(alloc, &known, &tree)? {
+    let scripts = [tree];
+    let classes = declared_classes(alloc, &known, &mut names, &scripts)?;
+    match first_refusal(alloc, &known, &classes, 0, &scripts[0])? {
         Some(refusal) => Ok((
             refusal.kind.number(),
             refusal.place.line,
