@@ -19,22 +19,26 @@ use Rattle.gv_simulate.specs.Report.{report_of}
 use Rattle.gv_simulate.specs.declared.report.Report.{Report}
 use Rattle.gv_words.specs.Words.{reading_of}
 use Rattle.gv_words.specs.declared.words.Reading.{Reading}
-use Rattle.groovy_cli.specs.Program.{Request, word_at, request_in, request_of, Lexes, Says, a_tree, said_of, first_world, texts_behind, not_built}
+use Rattle.groovy_cli.specs.Program.{Request, word_at, request_in, request_of, Lexes, Says, IsJudged, a_tree, with_rules, with_all, said_of, first_world, texts_behind, not_built}
 
 pub world_is : (names all : List (List ℕ)) (classes : List Declared) (texts : List ℕ) (limits : Limits) (w : World) → all ≡ with_texts names rows → classes ≡ map (built_in_class all) rows → w ≡ opened_world all classes texts limits
     → w ≡ first_world names texts limits
 world_is names all classes texts limits w p q r = r ∙ rw (q, p) refl
 
-module _ (limits : Limits) (bytes : List ℕ) (names all : List (List ℕ)) (tokens : List Token) (s : Script) (known : Known) (unit : Option (List Source)) (l : Lexes bytes names tokens) (t : Parses (Ok s) tokens) (p : all ≡ with_known names) (k : AreKnown all known) (u : unit ≡ unit_of known s) where
-  says : Says limits bytes (said_of limits (with_known names) (texts_behind [] tokens) unit)
-  says = subst (λ u. Says limits bytes (said_of limits (with_known names) (texts_behind [] tokens) u)) (sym u) (a_tree l t (subst (λ n. AreKnown n known) p k))
+module _ (limits : Limits) (bytes : List ℕ) (names some all : List (List ℕ)) (tokens : List Token) (s : Script) (known : Known) (unit : Option (List Source)) (l : Lexes bytes names tokens) (t : Parses (Ok s) tokens)
+    (j : IsJudged names s None) (p : some ≡ with_rules names) (q : all ≡ with_known some) (k : AreKnown all known) (u : unit ≡ unit_of known s) where
+  known_all : all ≡ with_all names
+  known_all = q ∙ ap with_known p
+
+  says : Says limits bytes (said_of limits (with_all names) (texts_behind [] tokens) unit)
+  says = subst (λ u. Says limits bytes (said_of limits (with_all names) (texts_behind [] tokens) u)) (sym u) (a_tree l t j (subst (λ n. AreKnown n known) known_all k))
 
   pub not_built_said : (r : Refusal) → unit ≡ None → r ≡ not_built → Says limits bytes (Err r)
-  not_built_said r e f = rw f (subst (λ u. Says limits bytes (said_of limits (with_known names) (texts_behind [] tokens) u)) e says)
+  not_built_said r e f = rw f (subst (λ u. Says limits bytes (said_of limits (with_all names) (texts_behind [] tokens) u)) e says)
 
   pub run_said : (bodies : List Source) (texts : List ℕ) (report : Report) → unit ≡ Some bodies → texts ≡ texts_behind [] tokens → report ≡ report_of (meaning bodies (first_world all texts limits)) → Says limits bytes (Ok report)
   run_said bodies texts report e f g =
-      subst (λ r. Says limits bytes (Ok r)) (sym (g ∙ rw (f, p) refl)) (subst (λ u. Says limits bytes (said_of limits (with_known names) (texts_behind [] tokens) u)) e says)
+      subst (λ r. Says limits bytes (Ok r)) (sym (g ∙ rw (f, known_all) refl)) (subst (λ u. Says limits bytes (said_of limits (with_all names) (texts_behind [] tokens) u)) e says)
 
 pub asked : (words : List (List ℕ)) (reading : Reading) (file : List ℕ) → reading_of words ≡ Some reading → file ≡ word_at words reading.file → request_of words ≡ Some (record { file = file; limits = reading.limits })
 asked words reading file e f = rw f (ap (option_map (request_in words)) e)

@@ -186,7 +186,30 @@ fn variables_branches_and_loops(rt: HostRuntime) -> Result<(), Fail> {
     let not_built = "a.groovy:1:1: refused 40: not built yet\n";
     let table = [
         ("def n = 3\nn = n + 4\nprintln n * n", "49\n", "", 0),
-        ("def n = 3; def n = 4", "", not_built, 2),
+        (
+            "def n = 3; def n = 4",
+            "",
+            "a.groovy:1:16: refused 20: name declared twice\n",
+            2,
+        ),
+        (
+            "def x = 1\ndef f = { -> def x = 2 }",
+            "",
+            "a.groovy:2:18: refused 20: name declared twice\n",
+            2,
+        ),
+        (
+            "import java.util.List",
+            "",
+            "a.groovy:1:1: refused 22: import outside this profile\n",
+            2,
+        ),
+        (
+            "break",
+            "",
+            "a.groovy:1:1: refused 28: nothing to leave\n",
+            2,
+        ),
         ("n = 3", "", not_built, 2),
         ("if (true) { def n = 1 }\nprintln n", "", not_built, 2),
         ("def println = 1\nprintln 2", "", not_built, 2),
