@@ -28,6 +28,12 @@ pub fn first_refusal(
     let first = first_of_repeats(alloc, classes, file, first)?;
     let first = first_of_circles(alloc, classes, file, first)?;
     let events = events_of(alloc, known.words(), script)?;
-    let first = first_of_types(classes, known.declare.interceptable, script, events.as_slice(), first);
+    let first = first_of_types(
+        classes,
+        known.declare.interceptable,
+        script,
+        events.as_slice(),
+        first,
+    );
     first_of_bodies(alloc, events.as_slice(), first)
 }

@@ -29,10 +29,7 @@ fn classes_and_members_declared_twice(rt: HostRuntime) -> Result<(), Fail> {
             "class A { def m() { 1 }; static def m() { 2 } }",
             (26, 1, 37),
         ),
-        (
-            "def m(Object... x) { 1 }\ndef m(Object x) { 2 }",
-            (0, 0, 0),
-        ),
+        ("def m(Object... x) { 1 }\ndef m(Object x) { 2 }", (0, 0, 0)),
         (
             "def m(String... x) { 1 }\ndef m(String... y) { 2 }",
             (26, 2, 5),
@@ -89,10 +86,7 @@ fn unknown_classes(rt: HostRuntime) -> Result<(), Fail> {
 fn superclass_circles(rt: HostRuntime) -> Result<(), Fail> {
     let table = [
         ("class A extends A { }", (25, 1, 7)),
-        (
-            "class A extends B { }\nclass B extends A { }",
-            (25, 1, 7),
-        ),
+        ("class A extends B { }\nclass B extends A { }", (25, 1, 7)),
         (
             "class C extends A { }\nclass A extends B { }\nclass B extends A { }",
             (25, 2, 7),
