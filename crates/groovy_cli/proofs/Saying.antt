@@ -21,6 +21,10 @@ use Rattle.gv_words.specs.Words.{reading_of}
 use Rattle.gv_words.specs.declared.words.Reading.{Reading}
 use Rattle.groovy_cli.specs.Program.{Request, word_at, request_in, request_of, Lexes, Says, IsJudged, a_tree, with_rules, with_all, said_of, first_world, texts_behind, not_built}
 
+pub none_of : {A : Type 0} (r : Option A) → ((x : A) → r ≡ Some x → ⊥) → r ≡ None
+none_of None f = refl
+none_of (Some x) f = absurd (f x refl)
+
 pub world_is : (names all : List (List ℕ)) (classes : List Declared) (texts : List ℕ) (limits : Limits) (w : World) → all ≡ with_texts names rows → classes ≡ map (built_in_class all) rows → w ≡ opened_world all classes texts limits
     → w ≡ first_world names texts limits
 world_is names all classes texts limits w p q r = r ∙ rw (q, p) refl

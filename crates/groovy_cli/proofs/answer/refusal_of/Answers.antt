@@ -1,4 +1,4 @@
-use Rattle.std.proofs.Common.{◌≡◌, List, ℕ, Option, [], ◌∷◌, refl, ap, ◌∙◌}
+use Rattle.std.proofs.Common.{◌≡◌, List, ℕ, Option, [], ◌∷◌, ap, ◌∙◌}
 use Rattle.gv_base.specs.declared.refusal.Refusal.{Refusal}
 use Rattle.gv_classes.specs.BuiltIn.{rows, with_texts}
 use Rattle.gv_classes.specs.declared.declared.Declared.{Declared}
@@ -14,7 +14,7 @@ judged_by : (names known : List (List ℕ)) (s : Script) (refusal : Option Refus
 judged_by names known s refusal rules scripts classes k p q d r = record {
   rules = rules;
   known = k;
-  judged = r ∙ ap (λ all. refusal_of rules all 0 s) (d ∙ rw (p, q) refl);
+  judged = r ∙ ap (λ all. refusal_of rules all 0 s) (d ∙ (ap (λ n. classes_of rules n scripts) p ∙ ap (classes_of rules (checks.with_known names)) q));
 }
 
 pub returns-clause-judged : goal.returns-clause-judged
