@@ -231,7 +231,6 @@ fn variables_branches_and_loops(rt: HostRuntime) -> Result<(), Fail> {
             "",
             0,
         ),
-        ("break", "", not_built, 2),
     ];
     for (script, output, line, status) in table {
         let ran = run::<Brand>(rt.alloc(), &["a.groovy"], script.as_bytes(), Blank::new(1))?;
