@@ -1,4 +1,3 @@
 pub mod Program
 pub mod Answers
-pub mod Judged
 pub mod Top

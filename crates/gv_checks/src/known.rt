@@ -25,8 +25,7 @@ impl Known {
         Ok(Known { it, tops, declare })
     }
 
-    /// Those by which events are told.
-    pub fn words(self) -> Words
+    pub(crate) fn words(self) -> Words
         ensures { result ≡ words_of self }
     {
         Words {

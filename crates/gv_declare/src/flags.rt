@@ -23,8 +23,7 @@ pub(crate) fn method_flags(modifiers: Modifiers, rest: bool) -> u8
         + flag(rest, REST)
 }
 
-/// Whether a declaration of fields with these words before it declares properties.
-pub fn is_property(modifiers: Modifiers) -> bool
+fn is_property(modifiers: Modifiers) -> bool
     ensures { result ≡ spec.is_property modifiers }
 {
     !(modifiers.is_public || modifiers.is_private || modifiers.is_protected)

@@ -10,6 +10,7 @@
 //! Where to begin: `specs/Repeats.antt`. Methods with defaults stand among the members as all the methods that they make.
 #![tactic(auto)]
 
+mod keys;
 mod repeats;
 
 pub use repeats::first_of_repeats;

@@ -30,6 +30,8 @@ pub struct Known {
     pub get_property: Name,
     /// `setProperty`
     pub set_property: Name,
+    /// `property`
+    pub property: Name,
 }
 
 impl Known {
@@ -50,6 +52,7 @@ impl Known {
         let lazy = names.intern("Lazy")?;
         let get_property = names.intern("getProperty")?;
         let set_property = names.intern("setProperty")?;
+        let property = names.intern("property")?;
         Ok(Known {
             groovy,
             transform,
@@ -63,6 +66,7 @@ impl Known {
             lazy,
             get_property,
             set_property,
+            property,
         })
     }
 }

@@ -1,3 +1,0 @@
-pub mod Known
-pub mod Core
-pub mod Placed
