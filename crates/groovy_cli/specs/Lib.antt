@@ -1,3 +1,4 @@
 pub mod Program
 pub mod Answers
+pub mod Judged
 pub mod Top

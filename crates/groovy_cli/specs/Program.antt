@@ -17,17 +17,17 @@ use Rattle.gv_lex.specs.declared.token.TokenKind.TheVariants as kind
 use Rattle.gv_tree.specs.declared.top.Script.{Script}
 use Rattle.gv_exprs.specs.declared.parse.ParseError.TheVariants.{Refused}
 use Rattle.gv_stmts.specs.Parsed.{Parses}
-use Rattle.gv_checks.specs.Checks as checks
-use Rattle.gv_checks.specs.Checks.{refusal_of, classes_of}
-use Rattle.gv_checks.specs.declared.known.Known.{Known as Rules}
+use Rattle.gv_phases.specs.Phases.{IsConverted, scripts_refused}
+use Rattle.gv_phases.specs.declared.known.Known.{Known as Rules}
+use Rattle.gv_classes.specs.declared.declared.Declared.{Declared}
 use Rattle.gv_meaning.specs.Meaning.{meaning}
 use Rattle.gv_meaning.specs.Opening.{opened_world}
 use Rattle.gv_meaning.specs.declared.world.Why.{Why}
 use Rattle.gv_meaning.specs.declared.world.Why.TheVariants.{Ticks, Cells, Depth}
 use Rattle.gv_meaning.specs.declared.world.World.{World}
-use Rattle.gv_scopes.specs.Core.{unit_of}
-use Rattle.gv_scopes.specs.Known.{AreKnown, with_known}
-use Rattle.gv_scopes.specs.declared.known.Known.{Known}
+use Rattle.gv_lower.specs.Core.{unit_of}
+use Rattle.gv_lower.specs.Known.{AreKnown, with_known}
+use Rattle.gv_lower.specs.declared.known.Known.{Known}
 use Rattle.gv_simulate.specs.Report.{report_of}
 use Rattle.gv_simulate.specs.declared.report.Ending.{Ending}
 use Rattle.gv_simulate.specs.declared.report.Ending.TheVariants.{Value, Uncaught, Stopped}
@@ -81,18 +81,19 @@ texts_behind texts (t ∷ ts) = texts_behind (with_text texts t.kind) ts
 abbrev pub first_world : List (List ℕ) → List ℕ → Limits → World
 first_world names texts limits = let all = with_texts names rows in opened_world all (map (built_in_class all) rows) texts limits
 
--- whether a script that has a tree is refused, by the names of which the rules speak, in the table of the tokens' names
+-- whether a script that has a tree is refused: it is converted, in the table of its tokens' names, and then judged
 pub record IsJudged (names : List (List ℕ)) (s : Script) (refusal : Option Refusal) : Type 0 where
   pub rules : Rules
-  pub known : checks.AreKnown names rules
-  pub judged : refusal ≡ refusal_of rules (classes_of rules (checks.with_known names) (s ∷ [])) 0 s
+  pub all : List (List ℕ)
+  pub scripts : List Script
+  pub classes : List Declared
+  pub converted : IsConverted names (s ∷ []) rules all scripts classes
+  pub judged : refusal ≡ scripts_refused rules classes scripts
 
--- the table with these names, those of the built-in classes, and those of which the built forms speak
-abbrev pub with_rules : List (List ℕ) → List (List ℕ)
-with_rules names = with_texts (checks.with_known names) rows
-
-abbrev pub with_all : List (List ℕ) → List (List ℕ)
-with_all names = with_known (with_rules names)
+-- the bodies of the first script
+abbrev pub first_unit : Known → List Script → Option (List Source)
+first_unit known [] = None
+first_unit known (s ∷ ss) = unit_of known s
 
 -- what a script's bodies come to, or that the script has none
 abbrev pub said_of : Limits → List (List ℕ) → List ℕ → Option (List Source) → Result Report Refusal
@@ -104,8 +105,8 @@ pub data Says (limits : Limits) (bytes : List ℕ) : Result Report Refusal → T
   no_tokens : {r : Refusal} → lexed 0 bytes ≡ Err r → Says limits bytes (Err r)
   no_tree : {names : List (List ℕ)} {tokens : List Token} {r : Refusal} → Lexes bytes names tokens → Parses (Err (Refused r)) tokens → Says limits bytes (Err r)
   a_refused_tree : {names : List (List ℕ)} {tokens : List Token} {s : Script} {r : Refusal} → Lexes bytes names tokens → Parses (Ok s) tokens → IsJudged names s (Some r) → Says limits bytes (Err r)
-  a_tree : {names : List (List ℕ)} {tokens : List Token} {s : Script} {known : Known} → Lexes bytes names tokens → Parses (Ok s) tokens → IsJudged names s None → AreKnown (with_all names) known
-      → Says limits bytes (said_of limits (with_all names) (texts_behind [] tokens) (unit_of known s))
+  a_tree : {names : List (List ℕ)} {tokens : List Token} {s : Script} {known : Known} → Lexes bytes names tokens → Parses (Ok s) tokens → (j : IsJudged names s None) → AreKnown (with_known j.all) known
+      → Says limits bytes (said_of limits (with_known j.all) (texts_behind [] tokens) (first_unit known j.scripts))
 
 -- ---- the lines of `err`
 

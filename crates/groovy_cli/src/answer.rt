@@ -1,25 +1,25 @@
-ghost use Rattle.std.specs.Prelude.{◌≡◌, ◌≤◌, length, IfOk, OnOk, OnErr};
+ghost use Rattle.std.specs.Prelude.{◌≡◌, ◌≤◌, [], ◌∷◌, length, IfOk, OnErr};
 ghost use Rattle.gv_meaning.specs.Meaning.{meaning};
 ghost use Rattle.gv_simulate.specs.Report.{report_of};
 ghost use Rattle.groovy_cli.specs.Answers.{Answers, Stands};
-ghost use Rattle.groovy_cli.specs.Program.{IsJudged, first_world, not_built, with_rules};
+ghost use Rattle.groovy_cli.specs.Judged.{Judged};
+ghost use Rattle.groovy_cli.specs.Program.{first_unit, first_world, not_built};
 
 use crate::texts::texts_of;
 use gv_base::{Limits, Name, Names, OutOfMemory, Place, Refusal, RefusalKind};
-use gv_checks::{Known as Rules, declared_classes, first_refusal};
 use gv_classes::Classes;
 use gv_core::Source;
 use gv_lex::{LexError, lex};
+use gv_lower::{Known, lower};
 use gv_meaning::opening;
 use gv_outside::{Files, MOST_BYTES, ReadError, read_whole};
-use gv_scopes::{Known, resolve};
+use gv_phases::{Canonical, PhaseError, Unit};
 use gv_simulate::{Report, run_unit};
 use gv_stmts::{ParseError, parse};
 use gv_tree::Script;
 use indexmap::IndexSet;
 use sqlite_items::Items;
 use std::alloc::Global;
-use std::slice;
 
 /// What the program has to say of its words and its file.
 #[derive(Debug, Drop)]
@@ -72,31 +72,52 @@ fn script_answer(alloc: Global, script: &[u8], limits: Limits) -> Result<Answer,
         Err(ParseError::Refused(refusal)) => return Ok(Answer::Refused(refusal)),
         Err(ParseError::OutOfMemory) => return Err(OutOfMemory),
     };
-    if let Some(refusal) = refusal_of(alloc, &mut names, &tree)? {
-        return Ok(Answer::Refused(refusal));
-    }
+    let unit = match canonical(alloc, names, tree) {
+        Ok(unit) => unit,
+        Err(PhaseError::Refused(refusal)) => return Ok(Answer::Refused(refusal)),
+        Err(PhaseError::OutOfMemory) => return Err(OutOfMemory),
+    };
+    let mut names = unit.names().copy(alloc)?;
     let known = Known::new(&mut names)?;
-    let unit = match resolve(alloc, known, &tree)? {
-        Some(unit) => unit,
+    let bodies = match first_unit(alloc, known, unit.trees())? {
+        Some(bodies) => bodies,
         None => return Ok(Answer::Refused(form_refusal())),
     };
     let texts = texts_of(alloc, tokens.as_slice())?;
-    let report = run_first(alloc, &mut names, &texts, &unit, limits)?;
+    let report = run_first(alloc, &mut names, &texts, &bodies, limits)?;
     Ok(Answer::Ran(report))
 }
 
-/// The first refusal of a script that has a tree.
-fn refusal_of(
-    alloc: Global,
-    names: &mut Names,
-    tree: &Script,
-) -> Result<Option<Refusal>, OutOfMemory>
-    ensures judged { IfOk result (IsJudged names.old tree.now) }
-    ensures names { OnOk result (names.new ≡ with_rules names.old) }
+/// A script that has a tree, behind canonicalization.
+fn canonical(alloc: Global, names: Names, tree: Script) -> Result<Unit<Canonical>, PhaseError>
+    ensures { Judged names tree result }
 {
-    let rules = Rules::new(names)?;
-    let classes = declared_classes(alloc, &rules, names, slice::from_ref(tree))?;
-    Ok(first_refusal(alloc, &rules, &classes, 0, tree)?)
+    let scripts = one(alloc, tree)?;
+    let converted = Unit::new(alloc, scripts, names).advance()?;
+    let analysed = converted.advance()?;
+    analysed.advance()
+}
+
+fn one(alloc: Global, tree: Script) -> Result<Vec<Script>, OutOfMemory>
+    ensures { IfOk result (λ scripts. scripts.items ≡ tree ∷ []) }
+{
+    let mut scripts = Vec::new(alloc);
+    scripts.push(tree)?;
+    Ok(scripts)
+}
+
+/// The bodies of the first script; None where a form of it isn't built.
+fn first_unit(
+    alloc: Global,
+    known: Known,
+    scripts: &[Script],
+) -> Result<Option<Items<Source>>, OutOfMemory>
+    ensures { IfOk result (λ unit. unit ≡ first_unit known scripts.now) }
+{
+    match scripts {
+        [script, ..] => lower(alloc, known, script),
+        [] => Ok(None),
+    }
 }
 
 /// What bodies print, and how their run ends, in the world in which a script's run begins.

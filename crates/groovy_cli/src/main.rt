@@ -2,7 +2,7 @@
 //!
 //! How it is stated: `specs/Program.antt` says which outcome the words and the files' contents have: the bytes for `out`, those for
 //! `err`, and the status. What the words ask for is gv_words' `reading_of`. A script is what its tokens spell, by the grammar of
-//! gv_grammar; its core tree is gv_scopes' `unit_of`, and what that means is gv_meaning's `meaning`. None of them speaks of code or a
+//! gv_grammar; its core tree is gv_lower' `unit_of`, and what that means is gv_meaning's `meaning`. None of them speaks of code or a
 //! machine. `specs/Top.antt` has the promises of the top call over what is told of files and sinks before and after it: when each
 //! status comes, and what is written with it.
 //!

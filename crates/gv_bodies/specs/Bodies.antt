@@ -83,8 +83,13 @@ has_super s = false
 abbrev pub after : Event → WatchState → WatchState
 after (event.Open s) w = opened s w
 after event.Close w = closed w
+after (event.OpenClass i) w = w
+after event.CloseClass w = w
 after (event.Declare i) w = declared i w
+after (event.Parameter i) w = declared i w
 after (event.Implicit name) w = held_too name w
+after (event.Use i) w = w
+after (event.UseOfThis i) w = w
 after (event.Class name) w = w
 after (event.Leave p l) w = unless (may_leave l w.inner) NothingToLeave p w
 after (event.This p) w = unless (has_this w.inner.member) ThisOrSuperOutOfPlace p w

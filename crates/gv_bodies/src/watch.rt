@@ -62,9 +62,13 @@ impl Watch {
                 self.close();
                 Ok(())
             }
-            Event::Declare(ident) => self.declare(ident),
+            Event::Declare(ident) | Event::Parameter(ident) => self.declare(ident),
             Event::Implicit(name) => self.hold(name),
-            Event::Class(_) => Ok(()),
+            Event::OpenClass(_)
+            | Event::CloseClass
+            | Event::Use(_)
+            | Event::UseOfThis(_)
+            | Event::Class(_) => Ok(()),
             Event::Leave(place, leave) => {
                 self.unless(
                     self.inner.may_leave(leave),

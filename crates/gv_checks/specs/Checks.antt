@@ -9,6 +9,7 @@ use Rattle.gv_declare.specs.Known as declare
 use Rattle.gv_declare.specs.Members.{all_declared}
 use Rattle.gv_events.specs.Events.{events_of}
 use Rattle.gv_events.specs.declared.words.Words.{Words}
+use Rattle.gv_loose.specs.Loose.{loose_refused}
 use Rattle.gv_tops.specs.Known as tops
 use Rattle.gv_tops.specs.Tops.{tops_refused}
 use Rattle.gv_repeats.specs.Repeats.{repeats_refused}
@@ -43,12 +44,13 @@ classes_of k names scripts = map (built_in_class (with_texts names rows)) rows +
 
 -- ---- refusals
 
--- the first refusal of a script in a file: of what stands at its top, of what it declares twice, of superclass circles, of its
--- types, and of its bodies
+-- the first refusal of a script in a file: of what stands at its top, of its statements, of what it declares twice, of superclass
+-- circles, of its types, and of its bodies
 abbrev pub refusal_of : Known → List Declared → ℕ → Script → Option Refusal
 refusal_of k classes file script =
     bodies_refused (events_of (words_of k) script)
     (types_refused classes k.declare.interceptable script (events_of (words_of k) script)
     (circles_refused classes file
     (repeats_refused classes file
-    (tops_refused k.tops script None))))
+    (loose_refused file script
+    (tops_refused k.tops script None)))))

@@ -7,6 +7,7 @@ use gv_bodies::first_of_bodies;
 use gv_circles::first_of_circles;
 use gv_classes::Classes;
 use gv_events::events_of;
+use gv_loose::first_of_loose;
 use gv_repeats::first_of_repeats;
 use gv_tops::first_of_tops;
 use gv_tree::Script;
@@ -25,6 +26,7 @@ pub fn first_refusal(
     ensures { IfOk result (λ refusal. refusal ≡ refusal_of known.now classes.now file script.now) }
 {
     let first = first_of_tops(&known.tops, script, None);
+    let first = first_of_loose(file, script, first);
     let first = first_of_repeats(alloc, classes, file, first)?;
     let first = first_of_circles(alloc, classes, file, first)?;
     let events = events_of(alloc, known.words(), script)?;

@@ -25,7 +25,8 @@ impl Known {
         Ok(Known { it, tops, declare })
     }
 
-    pub(crate) fn words(self) -> Words
+    /// Those by which events are told.
+    pub fn words(self) -> Words
         ensures { result ≡ words_of self }
     {
         Words {

@@ -23,7 +23,8 @@ pub(crate) fn method_flags(modifiers: Modifiers, rest: bool) -> u8
         + flag(rest, REST)
 }
 
-fn is_property(modifiers: Modifiers) -> bool
+/// Whether a declaration of fields with these words before it declares properties.
+pub fn is_property(modifiers: Modifiers) -> bool
     ensures { result ≡ spec.is_property modifiers }
 {
     !(modifiers.is_public || modifiers.is_private || modifiers.is_protected)

@@ -7,8 +7,8 @@
 //!
 //! The promise: `declare_class` gives what a class declares, `declare_members` puts what a script declares outside its classes
 //! behind what was declared before, and `declare_all` adds the class of all scripts and then each class of theirs, in order.
-//! Each member with a rest parameter has a type. `Known::new` gives the names of the rules' own texts, and puts those that are
-//! new behind the table's.
+//! Each member with a rest parameter has a type. `written_name` gives the name of a written type, and `is_property` says which
+//! fields are properties. `Known::new` gives the names of the rules' own texts, and puts those that are new behind the table's.
 //!
 //! Where to begin: `specs/Members.antt`, whose definitions have the names of the functions that follow them, then
 //! `class.rt` and `script.rt`. A new modifier that members keep is a flag of gv_classes, and a line of `flags.rt`.
@@ -24,8 +24,10 @@ mod script;
 mod types;
 
 pub use class::declare_class;
+pub use flags::is_property;
 pub use known::Known;
 pub use script::{declare_all, declare_members};
+pub use types::written_name;
 
 #[cfg(test)]
 mod tests;

@@ -18,8 +18,8 @@ fn type_name(known: &Known, class: TypeTree) -> Name
     }
 }
 
-/// The name of a variable's type.
-pub(crate) fn written_name(known: &Known, class: VarType) -> Name
+/// The name of the type of a variable or a field.
+pub fn written_name(known: &Known, class: VarType) -> Name
     ensures { result ≡ spec.written_name known.now class }
 {
     match class {

@@ -40,7 +40,7 @@ use Rattle.gv_tree.specs.declared.top.Script.{Script}
 use Rattle.gv_tree.specs.declared.top.Top.{Top}
 use Rattle.gv_tree.specs.declared.top.Top.TheVariants as top
 use Rattle.gv_events.specs.declared.event.Event.{Event}
-use Rattle.gv_events.specs.declared.event.Event.TheVariants.{Open, Close, Declare, Implicit, Class as Named, Leave, This, SuperCall, OutOfPlace}
+use Rattle.gv_events.specs.declared.event.Event.TheVariants.{Open, Close, OpenClass, CloseClass, Declare, Parameter, Implicit, Use, UseOfThis, Class as Named, Leave, This, SuperCall, OutOfPlace}
 use Rattle.gv_events.specs.declared.event.Scope.{Scope}
 use Rattle.gv_events.specs.declared.event.Scope.TheVariants as scope
 use Rattle.gv_events.specs.declared.words.Words.{Words}
@@ -100,6 +100,7 @@ abbrev pub Layer : Type 0
 Layer = Expr-F Arg Closure Entry Expr Item Key Label Stmt GString Param Part Case Catch Decl Var
 
 abbrev pub atom_said : Place → Atom → Said
+atom_said p (atom.Name name) so_far = say (Use (record { place = p; name = name })) so_far
 atom_said p atom.This so_far = say (This p) so_far
 atom_said p atom.Super so_far = say (OutOfPlace p) so_far
 atom_said p a so_far = so_far
@@ -109,6 +110,24 @@ abbrev pub super_in : MemberOp → Layer → Option Place
 super_in member_op.Dot (Expr-F.Atom p atom.Super) = Some p
 super_in op x = None
 
+-- whether a member of `this` is named, by `.` or `.@`
+abbrev pub is_this : Layer → Bool
+is_this (Expr-F.Atom p atom.This) = true
+is_this x = false
+
+abbrev pub is_of_this : MemberOp → Layer → Bool
+is_of_this member_op.Dot x = is_this x
+is_of_this op x = false
+
+abbrev pub own_said : Bool → Ident → Said
+own_said true name so_far = say (UseOfThis name) so_far
+own_said false name so_far = so_far
+
+-- a member that is named by a name
+abbrev pub member_in : Bool → Label-F Arg Closure Entry Expr Item Key Label Stmt GString Param Part Case Catch Decl Var → Said
+member_in of_this (Label-F.Name name) so_far = own_said of_this name so_far
+member_in of_this other so_far = so_far
+
 abbrev pub constructor_in : Layer → Option Place
 constructor_in (Expr-F.Atom p atom.This) = Some p
 constructor_in (Expr-F.Atom p atom.Super) = Some p
@@ -116,6 +135,9 @@ constructor_in x = None
 
 abbrev pub method_scope : Bool → Scope
 method_scope is_static = if is_static then scope.StaticMethod else scope.Method
+
+abbrev pub field_scope : Bool → Scope
+field_scope is_static = if is_static then scope.StaticField else scope.Field
 
 abbrev pub name_said : Ident → Said
 name_said name so_far = say (Declare name) so_far
@@ -170,7 +192,7 @@ module _ (it : ℕ) (expr : Expr → Said) (stmt : Stmt → Said) where
 
   -- a name is held from behind its own initial value on
   abbrev pub param_said : Param → Said
-  param_said x so_far = say (Declare (out-Param x).ident) (if_there expr (out-Param x).initial (if_there written_said (out-Param x).written so_far))
+  param_said x so_far = say (Parameter (out-Param x).ident) (if_there expr (out-Param x).initial (if_there written_said (out-Param x).written so_far))
 
   -- a closure without a parameter list has `it`
   abbrev pub params_said : Option (List Param) → Said
@@ -207,8 +229,8 @@ module _ (it : ℕ) (expr : Expr → Said) (stmt : Stmt → Said) where
   expr_in (Expr-F.Typed p op x t) so_far = type_said t (expr x so_far)
   expr_in (Expr-F.Choice p x y z) so_far = expr z (if_there expr y (expr x so_far))
   expr_in (Expr-F.Assign p op x y) so_far = expr y (expr x so_far)
-  expr_in (Expr-F.Member p op x l) so_far = label_said l (expr x so_far)
-  expr_in (Expr-F.Field p x name) so_far = expr x so_far
+  expr_in (Expr-F.Member p op x l) so_far = member_in (is_of_this op (out-Expr x)) (out-Label l) (label_said l (expr x so_far))
+  expr_in (Expr-F.Field p x name) so_far = own_said (is_this (out-Expr x)) name (expr x so_far)
   expr_in (Expr-F.Index p x xs) so_far = each expr xs (expr x so_far)
   expr_in (Expr-F.Call p x args) so_far = args_said args (callee_said (constructor_in (out-Expr x)) x (out-Expr x) so_far)
 
@@ -277,13 +299,16 @@ module _ (it : ℕ) (expr : Expr → Said) (stmt : Stmt → Said) where
   abbrev pub field_var_said : Var → Said
   field_var_said v so_far = if_there expr (out-Var v).initial so_far
 
-  abbrev pub field_said : VarType → List Var → Said
-  field_said w vars so_far = inside scope.Field (each field_var_said vars) (written_said w so_far)
+  abbrev pub field_said : Bool → VarType → List Var → Said
+  field_said is_static w vars so_far = inside (field_scope is_static) (each field_var_said vars) (written_said w so_far)
 
   abbrev pub class_member_said : Member → Said
   class_member_said (member.Method m) so_far = method_said m so_far
   class_member_said (member.Constructor c) so_far = constructor_said c so_far
-  class_member_said (member.Field f) so_far = field_said f.written f.vars so_far
+  class_member_said (member.Field f) so_far = field_said f.modifiers.is_static f.written f.vars so_far
+
+  abbrev pub class_said : ClassTree → Said
+  class_said c so_far = say CloseClass (each class_member_said c.members (say (OpenClass c.ident) so_far))
 
   module _ (words : Words) where
     -- the statements of a script, which share a scope
@@ -294,9 +319,9 @@ module _ (it : ℕ) (expr : Expr → Said) (stmt : Stmt → Said) where
 
     -- what else stands at the top
     abbrev pub other_said : Top → Said
-    other_said (top.Class c) so_far = each class_member_said c.members so_far
+    other_said (top.Class c) so_far = class_said c so_far
     other_said (top.Method m) so_far = method_said m so_far
-    other_said (top.Decl notes d) so_far = if has_field words notes then field_said (out-Decl d).written (out-Decl d).vars so_far else so_far
+    other_said (top.Decl notes d) so_far = if has_field words notes then field_said false (out-Decl d).written (out-Decl d).vars so_far else so_far
     other_said other so_far = so_far
 
     abbrev pub tops_said : List Top → Said

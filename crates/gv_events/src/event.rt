@@ -10,8 +10,9 @@ pub enum Scope {
     Method,
     StaticMethod,
     Constructor,
-    /// The initial value of a field.
+    /// The initial values of fields.
     Field,
+    StaticField,
     /// A closure, with its parameters.
     Closure,
     /// A loop, with its variable.
@@ -28,10 +29,20 @@ pub enum Event {
     Open(Scope),
     /// The scope that began last ends.
     Close,
-    /// A local, a parameter, the variable of a loop or of a catch is declared.
+    /// The members of a class begin.
+    OpenClass(Ident),
+    /// The members of the class that began last end.
+    CloseClass,
+    /// A local, the variable of a loop or of a catch is declared.
     Declare(Ident),
+    /// A parameter is declared.
+    Parameter(Ident),
     /// A closure without a parameter list has this parameter, which is written nowhere.
     Implicit(Name),
+    /// A name that is an expression, also one that is called or assigned.
+    Use(Ident),
+    /// The name of a member of `this`, behind `.` or `.@`, but for one that is called.
+    UseOfThis(Ident),
     /// The name of a class, as a type or behind `new`.
     Class(Ident),
     Leave(Place, Leave),

@@ -1,4 +1,4 @@
-//! Where `this` and `super` are called, or a member of `super` is.
+//! Where `this` and `super` are called, or a member of them is named.
 
 ghost use Rattle.std.specs.Prelude.{◌≡◌};
 ghost use Rattle.gv_tree.specs.declared.expr.Expr.{out-Expr};
@@ -14,6 +14,23 @@ pub(crate) fn super_in(op: MemberOp, receiver: &Expr) -> Option<Place>
     match (op, receiver) {
         (MemberOp::Dot, Expr::Atom(place, Atom::Super)) => Some(*place),
         _ => None,
+    }
+}
+
+/// Whether an expression is `this`.
+pub(crate) fn is_this(receiver: &Expr) -> bool
+    ensures { result ≡ spec.is_this (out-Expr receiver.now) }
+{
+    matches!(receiver, Expr::Atom(_, Atom::This))
+}
+
+/// Whether a member of `this` is named.
+pub(crate) fn is_of_this(op: MemberOp, receiver: &Expr) -> bool
+    ensures { result ≡ spec.is_of_this op (out-Expr receiver.now) }
+{
+    match op {
+        MemberOp::Dot => is_this(receiver),
+        _ => false,
     }
 }
 

@@ -3,11 +3,12 @@
 ghost use Rattle.std.specs.Prelude.{◌≡◌, OnOk};
 ghost use Rattle.gv_tree.specs.declared.expr.Closure.{out-Closure};
 ghost use Rattle.gv_tree.specs.declared.expr.Expr.{out-Expr};
+ghost use Rattle.gv_tree.specs.declared.expr.Label.{out-Label};
 ghost use Rattle.gv_tree.specs.declared.stmt.Stmt.{out-Stmt};
 ghost use Rattle.gv_events.specs.Events as spec;
 
 use crate::event::{Event, Scope};
-use crate::names::{constructor_in, super_in};
+use crate::names::{constructor_in, is_of_this, is_this, super_in};
 use crate::types::{maybe_written, type_tree, types, written};
 use gv_base::{Name, OutOfMemory, Place};
 use gv_tree::{
@@ -69,11 +70,15 @@ impl Reader {
                 self.maybe_expr(levels, first, out)?;
                 self.expr(levels, second.get(), out)
             }
-            Expr::Member(_, _, receiver, label) => {
+            Expr::Member(_, op, receiver, label) => {
                 self.expr(levels, receiver.get(), out)?;
-                self.label(levels, label, out)
+                self.label(levels, label, out)?;
+                member(is_of_this(*op, receiver.get()), label, out)
             }
-            Expr::Field(_, receiver, _) => self.expr(levels, receiver.get(), out),
+            Expr::Field(_, receiver, name) => {
+                self.expr(levels, receiver.get(), out)?;
+                own(is_this(receiver.get()), *name, out)
+            }
             Expr::Index(_, receiver, places) => {
                 self.expr(levels, receiver.get(), out)?;
                 self.exprs(levels, places.as_slice(), out)
@@ -281,7 +286,7 @@ impl Reader {
             written(class, out)?;
         }
         self.maybe_expr(levels, &param.initial, out)?;
-        out.push(Event::Declare(param.ident))?;
+        out.push(Event::Parameter(param.ident))?;
         Ok(())
     }
 
@@ -558,9 +563,29 @@ fn atom_of(place: Place, atom: Atom, out: &mut Items<Event>) -> Result<(), OutOf
     ensures { OnOk result (out.new ≡ spec.atom_said place atom out.old) }
 {
     match atom {
+        Atom::Name(name) => out.push(Event::Use(Ident { place, name }))?,
         Atom::This => out.push(Event::This(place))?,
         Atom::Super => out.push(Event::OutOfPlace(place))?,
         _ => {}
+    }
+    Ok(())
+}
+
+// A member that is named by a name.
+fn member(of_this: bool, label: &Label, out: &mut Items<Event>) -> Result<(), OutOfMemory>
+    ensures { OnOk result (out.new ≡ spec.member_in of_this (out-Label label.now) out.old) }
+{
+    match label {
+        Label::Name(name) => own(of_this, *name, out),
+        _ => Ok(()),
+    }
+}
+
+fn own(of_this: bool, name: Ident, out: &mut Items<Event>) -> Result<(), OutOfMemory>
+    ensures { OnOk result (out.new ≡ spec.own_said of_this name out.old) }
+{
+    if of_this {
+        out.push(Event::UseOfThis(name))?;
     }
     Ok(())
 }

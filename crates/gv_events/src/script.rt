@@ -95,17 +95,31 @@ impl Reader {
         ensures { OnOk result (out.new ≡ spec.other_said self.now.it (spec.expr_said self.now.it levels) (spec.stmt_said self.now.it levels) words top.now out.old) }
     {
         match top {
-            Top::Class(class) => self.members(levels, class.members.as_slice(), out),
+            Top::Class(class) => self.class(levels, class, out),
             Top::Method(method) => self.method(levels, method, out),
             Top::Decl(annotations, decl) => {
                 if words.has_field(annotations.as_slice()) {
-                    self.field(levels, decl.written, decl.vars.as_slice(), out)
+                    self.field(levels, false, decl.written, decl.vars.as_slice(), out)
                 } else {
                     Ok(())
                 }
             }
             _ => Ok(()),
         }
+    }
+
+    fn class(
+        &self,
+        levels: u32,
+        class: &ClassTree,
+        out: &mut Items<Event>,
+    ) -> Result<(), OutOfMemory>
+        ensures { OnOk result (out.new ≡ spec.class_said self.now.it (spec.expr_said self.now.it levels) (spec.stmt_said self.now.it levels) class.now out.old) }
+    {
+        out.push(Event::OpenClass(class.ident))?;
+        self.members(levels, class.members.as_slice(), out)?;
+        out.push(Event::CloseClass)?;
+        Ok(())
     }
 
     fn members(
@@ -133,7 +147,13 @@ impl Reader {
         match member {
             Member::Method(method) => self.method(levels, method, out),
             Member::Constructor(constructor) => self.constructor(levels, constructor, out),
-            Member::Field(field) => self.field(levels, field.written, field.vars.as_slice(), out),
+            Member::Field(field) => self.field(
+                levels,
+                field.modifiers.is_static,
+                field.written,
+                field.vars.as_slice(),
+                out,
+            ),
         }
     }
 
@@ -216,14 +236,15 @@ impl Reader {
     fn field(
         &self,
         levels: u32,
+        is_static: bool,
         class: VarType,
         vars: &[Var],
         out: &mut Items<Event>,
     ) -> Result<(), OutOfMemory>
-        ensures { OnOk result (out.new ≡ spec.field_said self.now.it (spec.expr_said self.now.it levels) (spec.stmt_said self.now.it levels) class vars.now out.old) }
+        ensures { OnOk result (out.new ≡ spec.field_said self.now.it (spec.expr_said self.now.it levels) (spec.stmt_said self.now.it levels) is_static class vars.now out.old) }
     {
         written(class, out)?;
-        out.push(Event::Open(Scope::Field))?;
+        out.push(Event::Open(field_scope(is_static)))?;
         self.initials(levels, vars, out)?;
         out.push(Event::Close)?;
         Ok(())
@@ -246,5 +267,15 @@ fn method_scope(is_static: bool) -> Scope
         Scope::StaticMethod
     } else {
         Scope::Method
+    }
+}
+
+fn field_scope(is_static: bool) -> Scope
+    ensures { result ≡ spec.field_scope is_static }
+{
+    if is_static {
+        Scope::StaticField
+    } else {
+        Scope::Field
     }
 }

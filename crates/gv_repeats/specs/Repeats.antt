@@ -1,8 +1,5 @@
 -- The refusals of what a script declares a second time: classes, fields, methods and constructors.
-use Rattle.std.specs.Prelude.{ℕ, ◌+◌, Bool, false, ◌==◌, List, [], ◌∷◌, ◌++◌, Option, nat_eq, if◌then◌else◌}
-use Rattle.std.specs.Cmp.Lexicographic.{pointwise}
-use Rattle.std.specs.Int.Bits.{bit_and}
-use Rattle.std.specs.List.{list_any}
+use Rattle.std.specs.Prelude.{ℕ, ◌+◌, Bool, false, ◌==◌, List, [], ◌∷◌, Option, if◌then◌else◌}
 use Rattle.std.specs.Option.{option_map_or}
 use Rattle.gv_base.specs.declared.refusal.Place.{Place}
 use Rattle.gv_base.specs.declared.refusal.Refusal.{Refusal}
@@ -13,7 +10,7 @@ use Rattle.gv_classes.specs.declared.declared.Declared.{Declared}
 use Rattle.gv_classes.specs.declared.declared.Member.{Member}
 use Rattle.gv_classes.specs.declared.declared.MemberKind.{MemberKind}
 use Rattle.gv_classes.specs.declared.declared.MemberKind.TheVariants as kind
-use Rattle.gv_classes.specs.declared.declared.TheConstants.{REST}
+use Rattle.gv_keys.specs.Keys.{key, is_there, with_key}
 use Rattle.gv_refusals.specs.Order.{earlier}
 
 abbrev pub Found : Type 0
@@ -25,30 +22,14 @@ noted file kind place first = if place.file == file then earlier first (record {
 
 -- ---- members
 
--- what tells a member of a class from others: what it is, its name, and but for a field whether its last parameter takes the
--- rest of the arguments, and the types of its parameters
-abbrev pub key_of : MemberKind → ℕ → ℕ → List ℕ → List ℕ
-key_of kind.Field name rest types = 0 ∷ name ∷ []
-key_of kind.Method name rest types = 1 ∷ name ∷ rest ∷ types
-key_of kind.Constructor name rest types = 2 ∷ name ∷ rest ∷ types
-
-abbrev pub key : Member → List ℕ
-key m = key_of m.kind m.name (bit_and m.flags REST) m.types
-
 abbrev pub refusal_of : MemberKind → RefusalKind
 refusal_of kind.Field = NameDeclaredTwice
 refusal_of kind.Method = MethodDeclaredTwice
 refusal_of kind.Constructor = MethodDeclaredTwice
 
 -- a member behind others of its class, of which these are the keys
-abbrev pub is_there : List (List ℕ) → List ℕ → Bool
-is_there keys k = list_any (pointwise nat_eq k) keys
-
 abbrev pub member_refused : ℕ → List (List ℕ) → Member → Found
 member_refused file keys m first = if is_there keys (key m) then noted file (refusal_of m.kind) m.place first else first
-
-abbrev pub with_key : List (List ℕ) → List ℕ → List (List ℕ)
-with_key keys k = if is_there keys k then keys else keys ++ k ∷ []
 
 abbrev pub members_refused : ℕ → List (List ℕ) → List Member → Found
 members_refused file keys [] first = first

@@ -10,7 +10,6 @@
 //! Where to begin: `specs/Repeats.antt`. Methods with defaults stand among the members as all the methods that they make.
 #![tactic(auto)]
 
-mod keys;
 mod repeats;
 
 pub use repeats::first_of_repeats;

@@ -1,9 +1,9 @@
 ghost use Rattle.std.specs.Prelude.{◌≡◌, [], IfOk};
 ghost use Rattle.gv_repeats.specs.Repeats as spec;
 
-use crate::keys::{Keys, key};
 use gv_base::{ClassId, OutOfMemory, Place, Refusal, RefusalKind};
 use gv_classes::{Classes, Declared, Member, MemberKind};
+use gv_keys::{Keys, key};
 use gv_refusals::earlier;
 use std::alloc::Global;
 

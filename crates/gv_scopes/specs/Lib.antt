@@ -1,3 +1,2 @@
-pub mod Known
-pub mod Core
-pub mod Placed
+pub mod Numbers
+pub mod Scopes

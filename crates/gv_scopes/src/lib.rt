@@ -1,30 +1,29 @@
-//! From a script's tree to its core tree, where each name is decided: a variable by its slot among those in scope, an
-//! operator by the method that it calls.
+//! What each name of a script means where it stands: a variable, a field of its class, a class, a property; which bodies the script
+//! has, and which variables its closures capture.
 //!
-//! How it is stated: `unit_of` of `specs/Core.antt` is the core tree of each script of the forms that are built, by cases on
-//! the trees of the grammar; a script with another form has none. `specs/Known.antt` says which names the rules speak of
-//! themselves, as those of the operators' methods, and `specs/Placed.antt` what a statement hands to those behind it.
+//! How it is stated: `specs/Scopes.antt` goes through the script's events (gv_events) and says what is known after each one
+//! (`Naming`): the variables, bodies and meanings so far, the names in scope, the scope there and those around it.
 //!
-//! The promise: `resolve` gives exactly that tree, and `None` exactly where there is none; `Known::new` gives the names of the
-//! rules' own texts, and puts those that are new behind the table's. They fail only where memory is wanting.
+//! The promise: `resolved_of` gives the variables in the order in which they are declared, the bodies in the order in which they
+//! begin, and the meanings in reading order, so that what goes over the tree in that order finds each in its turn. `shared` says
+//! whether a closure captures a variable. It takes time in proportion to the events, times the scopes that are open where a
+//! closure uses a variable from around it.
 //!
-//! Where to begin: `script.rt`, then `stmts.rt` and `exprs.rt`, whose functions stand in the order of the definitions;
-//! `placed.rt` and `resolver.rt` have what they put trees together with. A new form is a clause of `stmt_in`, `number_in` or
-//! `effect_in`, and the arm at the same place; a new operator is a clause of `method_of` or `comparison_of`, and its arm in
-//! `operators.rt`.
+//! Where to begin: `resolved.rt` and `specs/Scopes.antt`, then `resolver.rt`, which follows it line by line.
 #![tactic(auto)]
 
-mod exprs;
+mod fields;
+mod frame;
 mod known;
-mod names;
-mod operators;
-mod placed;
+mod numbers;
+mod resolved;
 mod resolver;
-mod script;
-mod stmts;
+mod scopes;
 
-pub use known::{Comparison, Known};
-pub use script::resolve;
+pub use known::Known;
+pub use numbers::Numbers;
+pub use resolved::{Body, Meaning, Resolved, Variable, shared};
+pub use scopes::resolved_of;
 
 #[cfg(test)]
 mod tests;

@@ -35,11 +35,8 @@ behind : (old : List (List ℕ)) {new last : List (List ℕ)} (text : List ℕ) 
 behind old text more e h = h ∙ ap (λ (t : List (List ℕ)). with_names t more) e
 
 -- the texts behind each
-abbrev after_property : List (List ℕ)
-after_property = []
-
 abbrev after_set_property : List (List ℕ)
-after_set_property = codes "property" ∷ after_property
+after_set_property = []
 
 abbrev after_get_property : List (List ℕ)
 after_get_property = codes "setProperty" ∷ after_set_property
@@ -75,7 +72,7 @@ abbrev after_groovy : List (List ℕ)
 after_groovy = codes "transform" ∷ after_transform
 
 -- names that were put into a table in turn
-pub all_known : (k : Known) (t0 : List (List ℕ)) {t1 t2 t3 t4 t5 t6 t7 t8 t9 t10 t11 t12 t13 : List (List ℕ)}
+pub all_known : (k : Known) (t0 : List (List ℕ)) {t1 t2 t3 t4 t5 t6 t7 t8 t9 t10 t11 t12 : List (List ℕ)}
     → t1 ≡ with_name t0 (codes "groovy")
     → t2 ≡ with_name t1 (codes "transform")
     → t3 ≡ with_name t2 (codes "lang")
@@ -88,7 +85,6 @@ pub all_known : (k : Known) (t0 : List (List ℕ)) {t1 t2 t3 t4 t5 t6 t7 t8 t9 t
     → t10 ≡ with_name t9 (codes "Lazy")
     → t11 ≡ with_name t10 (codes "getProperty")
     → t12 ≡ with_name t11 (codes "setProperty")
-    → t13 ≡ with_name t12 (codes "property")
     → name_of t1 (codes "groovy") ≡ Some k.groovy
     → name_of t2 (codes "transform") ≡ Some k.transform
     → name_of t3 (codes "lang") ≡ Some k.lang
@@ -101,22 +97,20 @@ pub all_known : (k : Known) (t0 : List (List ℕ)) {t1 t2 t3 t4 t5 t6 t7 t8 t9 t
     → name_of t10 (codes "Lazy") ≡ Some k.lazy
     → name_of t11 (codes "getProperty") ≡ Some k.get_property
     → name_of t12 (codes "setProperty") ≡ Some k.set_property
-    → name_of t13 (codes "property") ≡ Some k.property
-    → (t13 ≡ with_names t0 texts) × AreKnown t13 k
-all_known k t0 {t1 = t1} {t2 = t2} {t3 = t3} {t4 = t4} {t5 = t5} {t6 = t6} {t7 = t7} {t8 = t8} {t9 = t9} {t10 = t10} {t11 = t11} {t12 = t12} {t13 = t13} e1 e2 e3 e4 e5 e6 e7 e8 e9 e10 e11 e12 e13 groovy transform lang to_string equals_and_hash_code tuple_constructor field delegate singleton lazy get_property set_property property =
-    let h12 : t13 ≡ with_names t12 after_set_property = behind t12 (codes "property") after_property e13 refl in
-    let h11 : t13 ≡ with_names t11 after_get_property = behind t11 (codes "setProperty") after_set_property e12 h12 in
-    let h10 : t13 ≡ with_names t10 after_lazy = behind t10 (codes "getProperty") after_get_property e11 h11 in
-    let h9 : t13 ≡ with_names t9 after_singleton = behind t9 (codes "Lazy") after_lazy e10 h10 in
-    let h8 : t13 ≡ with_names t8 after_delegate = behind t8 (codes "Singleton") after_singleton e9 h9 in
-    let h7 : t13 ≡ with_names t7 after_field = behind t7 (codes "Delegate") after_delegate e8 h8 in
-    let h6 : t13 ≡ with_names t6 after_tuple_constructor = behind t6 (codes "Field") after_field e7 h7 in
-    let h5 : t13 ≡ with_names t5 after_equals_and_hash_code = behind t5 (codes "TupleConstructor") after_tuple_constructor e6 h6 in
-    let h4 : t13 ≡ with_names t4 after_to_string = behind t4 (codes "EqualsAndHashCode") after_equals_and_hash_code e5 h5 in
-    let h3 : t13 ≡ with_names t3 after_lang = behind t3 (codes "ToString") after_to_string e4 h4 in
-    let h2 : t13 ≡ with_names t2 after_transform = behind t2 (codes "lang") after_lang e3 h3 in
-    let h1 : t13 ≡ with_names t1 after_groovy = behind t1 (codes "transform") after_transform e2 h2 in
-    let h0 : t13 ≡ with_names t0 texts = behind t0 (codes "groovy") after_groovy e1 h1 in (
+    → (t12 ≡ with_names t0 texts) × AreKnown t12 k
+all_known k t0 {t1 = t1} {t2 = t2} {t3 = t3} {t4 = t4} {t5 = t5} {t6 = t6} {t7 = t7} {t8 = t8} {t9 = t9} {t10 = t10} {t11 = t11} {t12 = t12} e1 e2 e3 e4 e5 e6 e7 e8 e9 e10 e11 e12 groovy transform lang to_string equals_and_hash_code tuple_constructor field delegate singleton lazy get_property set_property =
+    let h11 : t12 ≡ with_names t11 after_get_property = behind t11 (codes "setProperty") after_set_property e12 refl in
+    let h10 : t12 ≡ with_names t10 after_lazy = behind t10 (codes "getProperty") after_get_property e11 h11 in
+    let h9 : t12 ≡ with_names t9 after_singleton = behind t9 (codes "Lazy") after_lazy e10 h10 in
+    let h8 : t12 ≡ with_names t8 after_delegate = behind t8 (codes "Singleton") after_singleton e9 h9 in
+    let h7 : t12 ≡ with_names t7 after_field = behind t7 (codes "Delegate") after_delegate e8 h8 in
+    let h6 : t12 ≡ with_names t6 after_tuple_constructor = behind t6 (codes "Field") after_field e7 h7 in
+    let h5 : t12 ≡ with_names t5 after_equals_and_hash_code = behind t5 (codes "TupleConstructor") after_tuple_constructor e6 h6 in
+    let h4 : t12 ≡ with_names t4 after_to_string = behind t4 (codes "EqualsAndHashCode") after_equals_and_hash_code e5 h5 in
+    let h3 : t12 ≡ with_names t3 after_lang = behind t3 (codes "ToString") after_to_string e4 h4 in
+    let h2 : t12 ≡ with_names t2 after_transform = behind t2 (codes "lang") after_lang e3 h3 in
+    let h1 : t12 ≡ with_names t1 after_groovy = behind t1 (codes "transform") after_transform e2 h2 in
+    let h0 : t12 ≡ with_names t0 texts = behind t0 (codes "groovy") after_groovy e1 h1 in (
       h0,
       record {
         groovy = later t1 after_groovy (codes "groovy") h1 groovy;
@@ -130,7 +124,6 @@ all_known k t0 {t1 = t1} {t2 = t2} {t3 = t3} {t4 = t4} {t5 = t5} {t6 = t6} {t7 =
         singleton = later t9 after_singleton (codes "Singleton") h9 singleton;
         lazy = later t10 after_lazy (codes "Lazy") h10 lazy;
         get_property = later t11 after_get_property (codes "getProperty") h11 get_property;
-        set_property = later t12 after_set_property (codes "setProperty") h12 set_property;
-        property = property;
+        set_property = set_property;
       },
     )

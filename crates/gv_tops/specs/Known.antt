@@ -9,7 +9,7 @@ texts =
     codes "groovy" ∷ codes "transform" ∷ codes "lang"
     ∷ codes "ToString" ∷ codes "EqualsAndHashCode" ∷ codes "TupleConstructor" ∷ codes "Field"
     ∷ codes "Delegate" ∷ codes "Singleton" ∷ codes "Lazy"
-    ∷ codes "getProperty" ∷ codes "setProperty" ∷ codes "property" ∷ []
+    ∷ codes "getProperty" ∷ codes "setProperty" ∷ []
 
 -- the table with these texts
 abbrev pub with_names : List (List ℕ) → List (List ℕ) → List (List ℕ)
@@ -30,4 +30,3 @@ pub record AreKnown (names : List (List ℕ)) (k : Known) : Type 0 where
   pub lazy : name_of names (codes "Lazy") ≡ Some k.lazy
   pub get_property : name_of names (codes "getProperty") ≡ Some k.get_property
   pub set_property : name_of names (codes "setProperty") ≡ Some k.set_property
-  pub property : name_of names (codes "property") ≡ Some k.property

@@ -1,15 +1,12 @@
 -- The refusals of what stands at the top of a script and in its classes. Each definition takes the first refusal that
 -- was found before, and gives the first one then.
-use Rattle.std.specs.Prelude.{Bool, ◌==◌, ◌&&◌, ◌||◌, false, List, [], ◌∷◌, Option, Some, None, if◌then◌else◌}
-use Rattle.std.specs.List.{list_any}
+use Rattle.std.specs.Prelude.{◌==◌, ◌||◌, List, [], ◌∷◌, Option, Some, None, if◌then◌else◌}
 use Rattle.gv_base.specs.declared.refusal.Place.{Place}
 use Rattle.gv_base.specs.declared.refusal.Refusal.{Refusal}
 use Rattle.gv_base.specs.declared.refusal.RefusalKind.{RefusalKind}
 use Rattle.gv_base.specs.declared.refusal.RefusalKind.TheVariants as kind
 use Rattle.gv_refusals.specs.Order.{earlier}
 use Rattle.gv_tree.specs.declared.ops.Ident.{Ident}
-use Rattle.gv_tree.specs.declared.stmt.Decl.{Decl, out-Decl}
-use Rattle.gv_tree.specs.declared.stmt.Var.{Var, out-Var}
 use Rattle.gv_tree.specs.declared.top.Annotation.{Annotation}
 use Rattle.gv_tree.specs.declared.top.ClassTree.{ClassTree}
 use Rattle.gv_tree.specs.declared.top.Constructor.{Constructor}
@@ -21,7 +18,7 @@ use Rattle.gv_tree.specs.declared.top.Method.{Method}
 use Rattle.gv_tree.specs.declared.top.Script.{Script}
 use Rattle.gv_tree.specs.declared.top.Top.{Top}
 use Rattle.gv_tree.specs.declared.top.Top.TheVariants as top
-use Rattle.gv_tops.specs.Transforms.{is_in_profile, imported_of, annotation_of, declares_properties, target_of, may_stand}
+use Rattle.gv_tops.specs.Transforms.{is_in_profile, imported_of, annotation_of, target_of, may_stand}
 use Rattle.gv_tops.specs.declared.imports.Imported.{Imported}
 use Rattle.gv_tops.specs.declared.known.Known.{Known}
 use Rattle.gv_tops.specs.declared.target.Target.{Target}
@@ -55,20 +52,10 @@ annotation_refused k s where_to a first = use_refused (annotation_of k s a.path)
 abbrev pub annotations_refused : Known → Imported → Target → List Annotation → Found
 annotations_refused k s where_to annotations first = each (annotation_refused k s where_to) annotations first
 
--- ---- methods and properties
+-- ---- methods
 
 abbrev pub method_name_refused : Known → Ident → Found
 method_name_refused k i first = if i.name == k.get_property || i.name == k.set_property then noted kind.PropertyOverride i.place first else first
-
-abbrev pub property_name_refused : Known → Ident → Found
-property_name_refused k i first = if i.name == k.property then noted kind.PropertyOverride i.place first else first
-
-abbrev pub var_refused : Known → Var → Found
-var_refused k v first = property_name_refused k (out-Var v).ident first
-
--- variables that are properties, or that aren't
-abbrev pub vars_refused : Known → Bool → List Var → Found
-vars_refused k are_properties vars first = if are_properties then each (var_refused k) vars first else first
 
 -- ---- members of classes
 
@@ -79,7 +66,7 @@ abbrev pub constructor_refused : Known → Imported → Constructor → Found
 constructor_refused k s c first = annotations_refused k s target.Other c.annotations first
 
 abbrev pub field_refused : Known → Imported → Field → Found
-field_refused k s f first = vars_refused k (declares_properties f.modifiers) f.vars (annotations_refused k s (target_of f.modifiers) f.annotations first)
+field_refused k s f first = annotations_refused k s (target_of f.modifiers) f.annotations first
 
 abbrev pub member_refused : Known → Imported → Member → Found
 member_refused k s (member.Method m) first = method_refused k s m first
@@ -91,23 +78,11 @@ class_refused k s c first = each (member_refused k s) c.members (annotations_ref
 
 -- ---- the top
 
--- `@Field`, with its package or without, whether it is imported or not
-abbrev pub is_field : Known → List Ident → Bool
-is_field k (name ∷ []) = name.name == k.field
-is_field k (root ∷ within ∷ name ∷ []) = root.name == k.groovy && within.name == k.transform && name.name == k.field
-is_field k path = false
-
-abbrev pub has_field : Known → List Annotation → Bool
-has_field k annotations = list_any (λ a. is_field k a.path) annotations
-
-abbrev pub declaration_refused : Known → Imported → List Annotation → Decl → Found
-declaration_refused k s annotations d first = vars_refused k (has_field k annotations) (out-Decl d).vars (annotations_refused k s target.Declaration annotations first)
-
 abbrev pub top_refused : Known → Imported → Top → Found
 top_refused k s (top.Import i) first = import_refused k i first
 top_refused k s (top.Class c) first = class_refused k s c first
 top_refused k s (top.Method m) first = method_refused k s m first
-top_refused k s (top.Decl annotations d) first = declaration_refused k s annotations d first
+top_refused k s (top.Decl annotations d) first = annotations_refused k s target.Declaration annotations first
 top_refused k s (top.Stmt x) first = first
 
 -- the first refusal of a script, or the one found before where that stands first

@@ -87,27 +87,3 @@ pub(crate) fn annotations_refused(
     }
     so_far
 }
-
-/// Whether one of these is `@Field`, imported or not.
-pub(crate) fn has_field(known: &Known, annotations: &[Annotation]) -> bool
-    ensures { result ≡ spec.has_field known.now annotations.now }
-{
-    for annotation in annotations {
-        if is_field(known, annotation.path.as_slice()) {
-            return true;
-        }
-    }
-    false
-}
-
-fn is_field(known: &Known, path: &[Ident]) -> bool
-    ensures { result ≡ spec.is_field known.now path.now }
-{
-    match path {
-        [name] => name.name == known.field,
-        [root, within, name] => root.name == known.groovy
-            && within.name == known.transform
-            && name.name == known.field,
-        _ => false,
-    }
-}

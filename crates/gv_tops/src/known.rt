@@ -30,8 +30,6 @@ pub struct Known {
     pub get_property: Name,
     /// `setProperty`
     pub set_property: Name,
-    /// `property`
-    pub property: Name,
 }
 
 impl Known {
@@ -52,7 +50,6 @@ impl Known {
         let lazy = names.intern("Lazy")?;
         let get_property = names.intern("getProperty")?;
         let set_property = names.intern("setProperty")?;
-        let property = names.intern("property")?;
         Ok(Known {
             groovy,
             transform,
@@ -66,7 +63,6 @@ impl Known {
             lazy,
             get_property,
             set_property,
-            property,
         })
     }
 }

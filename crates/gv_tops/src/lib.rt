@@ -1,8 +1,8 @@
-//! Refusals of what stands at the top of a script and in its classes: of imports, of annotations, and of methods and
-//! properties that would take the place of property access.
+//! Refusals of what stands at the top of a script and in its classes: of imports, of annotations, and of methods that would take
+//! the place of property access, those among them that conversion adds for a property.
 //!
 //! How it is stated: `tops_refused` of `specs/Tops.antt` is the first refusal of the whole, put together from those of
-//! each import, annotation, method and property. `specs/Transforms.antt` has the annotations of the profile: their
+//! each import, annotation and method. `specs/Transforms.antt` has the annotations of the profile: their
 //! names, the imports that make them known, and where they may stand. `specs/Known.antt` says which names the rules
 //! speak of.
 //!

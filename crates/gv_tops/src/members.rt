@@ -1,4 +1,4 @@
-//! The refusals of methods, properties and classes.
+//! The refusals of methods, fields and classes.
 
 ghost use Rattle.std.specs.Prelude.{◌≡◌};
 ghost use Rattle.gv_tops.specs.Tops as spec;
@@ -7,51 +7,15 @@ use crate::annotations::annotations_refused;
 use crate::imports::Imported;
 use crate::known::Known;
 use crate::noted::noted;
-use crate::target::{Target, declares_properties, target_of};
+use crate::target::{Target, target_of};
 use gv_base::{Refusal, RefusalKind};
-use gv_tree::{ClassTree, Constructor, Field, Ident, Member, Method, Var};
+use gv_tree::{ClassTree, Constructor, Field, Ident, Member, Method};
 
 fn method_name_refused(known: &Known, ident: Ident, first: Option<Refusal>) -> Option<Refusal>
     ensures { result ≡ spec.method_name_refused known.now ident first }
 {
     if ident.name == known.get_property || ident.name == known.set_property {
         noted(RefusalKind::PropertyOverride, ident.place, first)
-    } else {
-        first
-    }
-}
-
-fn property_name_refused(known: &Known, ident: Ident, first: Option<Refusal>) -> Option<Refusal>
-    ensures { result ≡ spec.property_name_refused known.now ident first }
-{
-    if ident.name == known.property {
-        noted(RefusalKind::PropertyOverride, ident.place, first)
-    } else {
-        first
-    }
-}
-
-fn each_var_refused(known: &Known, vars: &[Var], first: Option<Refusal>) -> Option<Refusal>
-    ensures { result ≡ spec.each (spec.var_refused known.now) vars.now first }
-{
-    let mut so_far = first;
-    for var in vars {
-        so_far = property_name_refused(known, var.ident, so_far);
-    }
-    so_far
-}
-
-/// The first refusal, after those of declared variables, which are properties or aren't.
-pub(crate) fn vars_refused(
-    known: &Known,
-    are_properties: bool,
-    vars: &[Var],
-    first: Option<Refusal>,
-) -> Option<Refusal>
-    ensures { result ≡ spec.vars_refused known.now are_properties vars.now first }
-{
-    if are_properties {
-        each_var_refused(known, vars, first)
     } else {
         first
     }
@@ -102,18 +66,12 @@ pub(crate) fn field_refused(
 ) -> Option<Refusal>
     ensures { result ≡ spec.field_refused known.now imported field.now first }
 {
-    let so_far = annotations_refused(
+    annotations_refused(
         known,
         imported,
         target_of(field.modifiers),
         field.annotations.as_slice(),
         first,
-    );
-    vars_refused(
-        known,
-        declares_properties(field.modifiers),
-        field.vars.as_slice(),
-        so_far,
     )
 }
 

@@ -25,7 +25,6 @@ const KNOWN: Known = Known {
     lazy: 10,
     get_property: 11,
     set_property: 12,
-    property: 13,
 };
 
 // The same names for short.
@@ -204,7 +203,7 @@ const STATIC: Modifiers = Modifiers {
 
 // A piece, its annotation or none, its name, what is imported in line 2 with `.*`, and the refusal: its kind, and its
 // column in line 1.
-const SCRIPTS: [(Piece, &[Name], Name, &[Name], Option<(RefusalKind, u32)>); 24] = [
+const SCRIPTS: [(Piece, &[Name], Name, &[Name], Option<(RefusalKind, u32)>); 16] = [
     (Piece::Declaration, &[FIELD], OTHER, &[G, T], None),
     (
         Piece::Declaration,
@@ -216,29 +215,8 @@ const SCRIPTS: [(Piece, &[Name], Name, &[Name], Option<(RefusalKind, u32)>); 24]
     (Piece::Declaration, &[G, T, FIELD], OTHER, &[G, L], None),
     (
         Piece::Declaration,
-        &[FIELD],
-        13,
-        &[G, T],
-        Some((RefusalKind::PropertyOverride, 9)),
-    ),
-    (
-        Piece::Declaration,
-        &[FIELD],
-        13,
-        &[G, L],
-        Some((RefusalKind::UnknownClass, 1)),
-    ),
-    (
-        Piece::Declaration,
-        &[G, T, FIELD],
-        13,
-        &[G, L],
-        Some((RefusalKind::PropertyOverride, 9)),
-    ),
-    (
-        Piece::Declaration,
         &[LAZY],
-        13,
+        OTHER,
         &[G, L],
         Some((RefusalKind::AnnotationOutOfPlace, 1)),
     ),
@@ -256,7 +234,7 @@ const SCRIPTS: [(Piece, &[Name], Name, &[Name], Option<(RefusalKind, u32)>); 24]
         &[G, L],
         Some((RefusalKind::PropertyOverride, 9)),
     ),
-    (Piece::Method, &[], 13, &[G, L], None),
+    (Piece::Method, &[], OTHER, &[G, L], None),
     (
         Piece::Method,
         &[LAZY],
@@ -308,23 +286,6 @@ const SCRIPTS: [(Piece, &[Name], Name, &[Name], Option<(RefusalKind, u32)>); 24]
         &[G, L],
         Some((RefusalKind::AnnotationOutOfPlace, 1)),
     ),
-    (
-        Piece::Field(PLAIN),
-        &[],
-        13,
-        &[G, L],
-        Some((RefusalKind::PropertyOverride, 9)),
-    ),
-    (
-        Piece::Field(STATIC),
-        &[],
-        13,
-        &[G, L],
-        Some((RefusalKind::PropertyOverride, 9)),
-    ),
-    (Piece::Field(PRIVATE), &[], 13, &[G, L], None),
-    (Piece::Field(PUBLIC), &[], 13, &[G, L], None),
-    (Piece::Field(PROTECTED), &[], 13, &[G, L], None),
 ];
 
 fn at(line: u32, column: u32) -> Place {

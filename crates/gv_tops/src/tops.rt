@@ -3,13 +3,13 @@
 ghost use Rattle.std.specs.Prelude.{◌≡◌};
 ghost use Rattle.gv_tops.specs.Tops as spec;
 
-use crate::annotations::{annotations_refused, has_field};
+use crate::annotations::annotations_refused;
 use crate::imports::{Imported, import_refused};
 use crate::known::Known;
-use crate::members::{class_refused, method_refused, vars_refused};
+use crate::members::{class_refused, method_refused};
 use crate::target::Target;
 use gv_base::Refusal;
-use gv_tree::{Annotation, Decl, Script, Top};
+use gv_tree::{Script, Top};
 
 /// The first refusal of the script's imports, annotations and members, or the one found before where that stands first.
 pub fn first_of_tops(known: &Known, script: &Script, first: Option<Refusal>) -> Option<Refusal>
@@ -46,31 +46,13 @@ fn top_refused(
         Top::Import(import) => import_refused(known, import, first),
         Top::Class(class) => class_refused(known, imported, class, first),
         Top::Method(method) => method_refused(known, imported, method, first),
-        Top::Decl(annotations, decl) => declaration_refused(
+        Top::Decl(annotations, _) => annotations_refused(
             known,
             imported,
+            Target::Declaration,
             annotations.as_slice(),
-            decl,
             first,
         ),
         Top::Stmt(_) => first,
     }
-}
-
-fn declaration_refused(
-    known: &Known,
-    imported: Imported,
-    annotations: &[Annotation],
-    decl: &Decl,
-    first: Option<Refusal>,
-) -> Option<Refusal>
-    ensures { result ≡ spec.declaration_refused known.now imported annotations.now decl.now first }
-{
-    let so_far = annotations_refused(known, imported, Target::Declaration, annotations, first);
-    vars_refused(
-        known,
-        has_field(known, annotations),
-        decl.vars.as_slice(),
-        so_far,
-    )
 }

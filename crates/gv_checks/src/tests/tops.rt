@@ -30,10 +30,7 @@ fn property_overrides(rt: HostRuntime) -> Result<(), Fail> {
         ("class A { def setProperty(n, v) { 1 } }", (24, 1, 15)),
         ("class A { def getProperty() { 1 } }", (24, 1, 15)),
         ("class A { static def getProperty(n) { 1 } }", (24, 1, 22)),
-        ("class A { def property }", (24, 1, 15)),
-        ("class A { private def property }", (0, 0, 0)),
         ("class A { def property() { 1 } }", (0, 0, 0)),
-        ("@groovy.transform.Field def property = 1", (24, 1, 29)),
         ("class A { def getProperty(a, a) { 1 } }", (24, 1, 15)),
     ];
     for (script, wanted) in table {

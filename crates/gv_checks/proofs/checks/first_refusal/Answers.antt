@@ -1,5 +1,6 @@
 use Rattle.std.proofs.Common.{◌≡◌, IfOk, subst, ap, ◌∙◌}
 use Rattle.gv_events.specs.Events.{events_of}
+use Rattle.gv_loose.specs.Loose.{loose_refused}
 use Rattle.gv_repeats.specs.Repeats.{repeats_refused}
 use Rattle.gv_circles.specs.Circles.{circles_refused}
 use Rattle.gv_types.specs.Types.{types_refused}
@@ -13,7 +14,7 @@ returns c =
     let script = c.args.script.now in
     let name = c.args.known.now.declare.interceptable in
     let said = c.in_ok-events.ensures ∙ ap (λ words. events_of words script) c.words.ensures in
-    let declared = c.in_ok-first-2.ensures ∙ ap (circles_refused classes c.args.file) (c.in_ok-first.ensures ∙ ap (repeats_refused classes c.args.file) c.first_of_tops-first.ensures) in
+    let declared = c.in_ok-first-2.ensures ∙ ap (circles_refused classes c.args.file) (c.in_ok-first.ensures ∙ ap (repeats_refused classes c.args.file) (c.first_of_loose-first.ensures ∙ ap (loose_refused c.args.file script) c.first_of_tops-first.ensures)) in
     let typed = c.first_of_types-first.ensures ∙ (ap (λ events. types_refused classes name script events c.in_ok-first-2.first) (c.as_slice.ensures ∙ said)
     ∙ ap (types_refused classes name script (events_of (words_of c.args.known.now) script)) declared) in
     subst (λ first. IfOk c.first_of_bodies.result (λ r. r ≡ bodies_refused (events_of (words_of c.args.known.now) script) first)) typed

@@ -1,0 +1,69 @@
+use super::{End, ended};
+use gv_scopes::{Meaning, shared};
+use std::alloc::Global;
+use std::test::Fail;
+
+/// A variable's number, and -1 for a property, -2 for a field, -3 for a class, -4 for a property of a closure's own; -9 behind the
+/// last one.
+fn meant(alloc: Global, script: &str) -> Result<[i32; 6], Fail> {
+    let mut row = [-9, -9, -9, -9, -9, -9];
+    if let End::Canonical(unit) = ended(alloc, script, "class Later { }")? {
+        if let Some(resolved) = unit.resolved().first() {
+            for (place, meaning) in resolved.uses.as_slice().iter().enumerate() {
+                if place < row.len() {
+                    row[place] = number(*meaning);
+                }
+            }
+        }
+    }
+    Ok(row)
+}
+
+fn number(meaning: Meaning) -> i32 {
+    match meaning {
+        Meaning::Variable(variable) => i32::try_from(variable).unwrap_or(-9),
+        Meaning::Property => -1,
+        Meaning::Field(_) => -2,
+        Meaning::Class(_) => -3,
+        Meaning::Owner | Meaning::Delegate | Meaning::ResolveStrategy => -4,
+    }
+}
+
+#[test]
+fn what_names_mean(rt: HostRuntime) -> Result<(), Fail> {
+    let table = [
+        ("x = 1; def x = 2; x + y", [-1, 0, -1, -9, -9, -9]),
+        ("def f = { it + x }; f(f)", [0, -1, 1, 1, -9, -9]),
+        (
+            "def n = 1; def f = { k -> return { -> n + k } }",
+            [0, 1, -9, -9, -9, -9],
+        ),
+        ("def f = { -> it }", [-1, -9, -9, -9, -9, -9]),
+        (
+            "def f = { owner + delegate }; Later",
+            [-4, -4, -3, -9, -9, -9],
+        ),
+        (
+            "class A { def x; def m() { x + this.x + this.@x + y } }",
+            [-2, -2, -2, -1, -2, -2],
+        ),
+    ];
+    for (script, wanted) in table {
+        assert_eq!(rt; meant(rt.alloc(), script)?, wanted, "{script}");
+    }
+    Ok(())
+}
+
+#[test]
+fn what_closures_capture(rt: HostRuntime) -> Result<(), Fail> {
+    let script = "def a = 1; def b = 2; def f = { c -> a + c }; b";
+    if let End::Canonical(unit) = ended(rt.alloc(), script, "")? {
+        assert_eq!(rt; unit.trees().len(), 2);
+        if let Some(resolved) = unit.resolved().first() {
+            assert!(rt; shared(resolved, 0));
+            assert!(rt; !shared(resolved, 1));
+            assert!(rt; !shared(resolved, 2));
+        }
+    }
+    Ok(())
+}

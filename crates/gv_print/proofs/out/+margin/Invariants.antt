@@ -1,0 +1,4 @@
+use Rattle.gv_print.proofs.out.+margin.Given as goal
+
+abbrev pub decreases-margin : goal.decreases-margin
+decreases-margin l = l.levels
