@@ -35,7 +35,7 @@ pub world_is : (names all : List (List ℕ)) (classes : List Declared) (texts : 
 world_is names all classes texts limits w p q r = r ∙ rw (q, p) refl
 
 module _ (names : List (List ℕ)) (s : Script) (u : phases.Unit Converted) (c : IsConverted names (s ∷ []) u.state.known u.names u.scripts.items u.state.classes) where
-  judged : (refusal : Option Refusal) → refusal ≡ scripts_refused u.state.known u.state.classes u.scripts.items → IsJudged names s refusal
+  abbrev judged : (refusal : Option Refusal) → refusal ≡ scripts_refused u.state.known u.state.classes u.scripts.items → IsJudged names s refusal
   judged refusal e = record { rules = u.state.known; all = u.names; scripts = u.scripts.items; classes = u.state.classes; converted = c; judged = e }
 
   pub refused_by : (e : PhaseError) → Passes (scripts_refused u.state.known u.state.classes u.scripts.items) (IsAnalysed u) (Err e) → Judged names s (Err e)

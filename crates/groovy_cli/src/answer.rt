@@ -94,8 +94,10 @@ fn canonical(alloc: Global, names: Names, tree: Script) -> Result<Unit<Canonical
 {
     let scripts = one(alloc, tree)?;
     let converted = Unit::new(alloc, scripts, names).advance()?;
-    let analysed = converted.advance()?;
-    analysed.advance()
+    match converted.advance() {
+        Ok(analysed) => analysed.advance(),
+        Err(error) => Err(error),
+    }
 }
 
 fn one(alloc: Global, tree: Script) -> Result<Vec<Script>, OutOfMemory>

@@ -23,6 +23,3 @@ mod turned;
 
 pub use known::Known;
 pub use script::convert;
-
-#[cfg(test)]
-mod tests;

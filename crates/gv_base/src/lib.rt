@@ -45,6 +45,3 @@ pub use std::alloc::AllocError as OutOfMemory;
 pub use steps::Steps;
 pub use text::Text;
 pub use value::{NULL_KIND, Value};
-
-#[cfg(test)]
-mod tests;

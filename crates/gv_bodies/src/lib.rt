@@ -16,6 +16,3 @@ mod held;
 mod watch;
 
 pub use bodies::first_of_bodies;
-
-#[cfg(test)]
-mod tests;

@@ -24,6 +24,3 @@ mod told;
 
 pub use calls::call;
 pub use told::{Chosen, Told};
-
-#[cfg(test)]
-mod tests;

@@ -31,6 +31,3 @@ pub use integers::integer_in;
 pub use order::compared;
 pub use places::{char_at, char_count, characters, part, picked, reversed, single};
 pub use split::pieces;
-
-#[cfg(test)]
-mod tests;

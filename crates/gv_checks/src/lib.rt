@@ -17,6 +17,3 @@ mod known;
 pub use checks::first_refusal;
 pub use classes::declared_classes;
 pub use known::Known;
-
-#[cfg(test)]
-mod tests;

@@ -14,6 +14,3 @@ mod circles;
 mod jumps;
 
 pub use circles::first_of_circles;
-
-#[cfg(test)]
-mod tests;

@@ -34,6 +34,3 @@ pub use ids::{
     MAP, META_CLASS, META_MEMBER, META_METHOD, NUMBER, OBJECT, RANGE, STRING, THROWABLE,
     exception_class,
 };
-
-#[cfg(test)]
-mod tests;

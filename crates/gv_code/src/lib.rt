@@ -25,6 +25,3 @@ pub use code::{Body, Code, Handler, Instruction, Op, OperandKind};
 pub use piece::{Item, Ways};
 pub use sqlite_items::Items;
 pub use stack::Stack;
-
-#[cfg(test)]
-mod tests;

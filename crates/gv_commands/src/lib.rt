@@ -11,9 +11,5 @@
 #![tactic(auto)]
 
 mod commands;
-#[cfg(test)]
-mod expression_tests;
-#[cfg(test)]
-mod tests;
 
 pub use commands::read_full;

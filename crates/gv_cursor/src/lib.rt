@@ -17,8 +17,6 @@ mod cursor;
 mod error;
 mod meaning;
 mod refused;
-#[cfg(test)]
-mod tests;
 mod trees;
 
 pub use braces::{closure, closures};

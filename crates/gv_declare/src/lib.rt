@@ -28,6 +28,3 @@ pub use flags::is_property;
 pub use known::Known;
 pub use script::{declare_all, declare_members};
 pub use types::written_name;
-
-#[cfg(test)]
-mod tests;

@@ -17,6 +17,3 @@ mod stmts;
 mod unit;
 
 pub use unit::emit;
-
-#[cfg(test)]
-mod tests;

@@ -15,6 +15,3 @@ mod items;
 
 pub use exprs::{emit_expr, items_of};
 pub use items::{leave, on_value, one, value_on};
-
-#[cfg(test)]
-mod tests;

@@ -40,6 +40,3 @@ pub use key::MapKey;
 pub use object::{Instance, Object, Part};
 pub use range::Range;
 pub use sqlite_items::Items;
-
-#[cfg(test)]
-mod tests;

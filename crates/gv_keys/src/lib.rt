@@ -12,6 +12,3 @@
 mod keys;
 
 pub use keys::{Keys, key};
-
-#[cfg(test)]
-mod tests;

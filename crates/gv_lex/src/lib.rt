@@ -28,8 +28,6 @@ mod lexer;
 mod names;
 mod open;
 mod places;
-#[cfg(test)]
-mod tests;
 mod token;
 
 pub use error::LexError;

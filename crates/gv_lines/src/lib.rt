@@ -23,8 +23,6 @@ mod ends;
 mod laws;
 mod lines;
 mod loads;
-#[cfg(test)]
-mod tests;
 
 pub use laws::{kept_again, only_line_ends_go};
 pub use lines::keep_lines;

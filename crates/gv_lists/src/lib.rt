@@ -24,6 +24,3 @@ mod throwing;
 mod writing;
 
 pub use calls::call_list;
-
-#[cfg(test)]
-mod tests;

@@ -13,6 +13,3 @@ mod loose;
 mod places;
 
 pub use loose::first_of_loose;
-
-#[cfg(test)]
-mod tests;

@@ -25,6 +25,3 @@ mod stmts;
 
 pub use known::{Comparison, Known};
 pub use script::lower;
-
-#[cfg(test)]
-mod tests;

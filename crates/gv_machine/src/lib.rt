@@ -19,6 +19,3 @@ mod machine;
 
 pub use end::{End, Pause};
 pub use machine::Machine;
-
-#[cfg(test)]
-mod tests;

@@ -24,6 +24,3 @@ mod reading;
 mod writing;
 
 pub use calls::call_map;
-
-#[cfg(test)]
-mod tests;

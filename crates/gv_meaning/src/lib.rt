@@ -29,6 +29,3 @@ pub use laws::examples;
 pub use open::opening;
 pub use output::Output;
 pub use world::{Cell, Why, World};
-
-#[cfg(test)]
-mod tests;

@@ -13,14 +13,12 @@
 //!
 //! Where to begin: `kinds.rt`, `specs/Table.antt`, then `methods.rt`. A new built-in method is a line
 //! in `methods.rt` and one more in `ROWS`, and no proof. The lines are the definition itself, so
-//! `tests.rt` compares them with examples. docs/METHODS.md tells users of each method.
+//! value_tests compares them with examples. docs/METHODS.md tells users of each method.
 #![tactic(auto)]
 
 mod kinds;
 mod methods;
 mod table;
-#[cfg(test)]
-mod tests;
 
 pub use kinds::{ANY_ARITY, Kind, Row, Takes};
 pub use methods::{ROWS, built_in};

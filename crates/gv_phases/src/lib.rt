@@ -23,6 +23,3 @@ pub use error::{PhaseError, ResolveError};
 pub use known::Known;
 pub use resolution::resolve;
 pub use unit::{Analysed, Canonical, Converted, Parsed, Unit};
-
-#[cfg(test)]
-mod tests;

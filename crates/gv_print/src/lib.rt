@@ -22,6 +22,3 @@ mod words;
 
 pub use printer::MOST_LEVELS;
 pub use tops::print_tree;
-
-#[cfg(test)]
-mod tests;

@@ -11,6 +11,3 @@
 mod order;
 
 pub use order::earlier;
-
-#[cfg(test)]
-mod tests;

@@ -13,6 +13,3 @@
 mod repeats;
 
 pub use repeats::first_of_repeats;
-
-#[cfg(test)]
-mod tests;

@@ -31,6 +31,3 @@ pub use sequence::Sequence;
 pub use takes::{lacks_one, row_at};
 pub use values::{class_name, class_of};
 pub use walk::Walk;
-
-#[cfg(test)]
-mod tests;

@@ -24,6 +24,3 @@ pub use known::Known;
 pub use numbers::Numbers;
 pub use resolved::{Body, Meaning, Resolved, Variable, shared};
 pub use scopes::resolved_of;
-
-#[cfg(test)]
-mod tests;

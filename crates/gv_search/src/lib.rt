@@ -16,6 +16,3 @@ mod rewrite;
 
 pub use places::{contains, count_places, ends_with, first_place, last_place, starts_with};
 pub use rewrite::{replaced, without_first};
-
-#[cfg(test)]
-mod tests;

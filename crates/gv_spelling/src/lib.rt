@@ -17,7 +17,7 @@
 //!
 //! Where to begin: `specs/Table.antt`, then `kinds.rt`, `next.rt` and `strings.rt`. A new symbol,
 //! keyword or refused word is a variant in `kinds.rt` and a row in `table.rt`, and no proof; a
-//! symbol has at most four characters. The rows are the definition itself, so `tests.rt` compares
+//! symbol has at most four characters. The rows are the definition itself, so reading_tests compares
 //! them with examples.
 #![tactic(auto)]
 
@@ -27,8 +27,6 @@ mod next;
 mod number;
 mod strings;
 mod table;
-#[cfg(test)]
-mod tests;
 
 pub use kinds::{Fault, Keyword, Lexeme, Quote, RefusedWord, Symbol, Unit};
 pub use next::between;

@@ -12,8 +12,6 @@
 mod classes;
 mod parsing;
 mod script;
-#[cfg(test)]
-mod tests;
 
 pub use gv_exprs::ParseError;
 pub use parsing::parse;

@@ -27,6 +27,3 @@ mod texts;
 mod throwing;
 
 pub use calls::call_string;
-
-#[cfg(test)]
-mod tests;

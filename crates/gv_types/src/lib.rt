@@ -13,6 +13,3 @@ mod names;
 mod types;
 
 pub use types::first_of_types;
-
-#[cfg(test)]
-mod tests;

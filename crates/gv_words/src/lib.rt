@@ -22,6 +22,3 @@ mod words;
 
 pub use asked::Limit;
 pub use words::{Reading, read_words};
-
-#[cfg(test)]
-mod tests;

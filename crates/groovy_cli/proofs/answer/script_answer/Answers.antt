@@ -22,14 +22,14 @@ returns-in-None c =
     let l : Lexes c.args.script.now c.lex.new.names c.in-Ok.tokens.items = record { spelled = c.in-Ok.ensures.tokens; named = c.in-Ok.ensures.named } in
     let t = rw (c.as_slice.ensures.value) at c.in-Ok-parse.ensures in
     let j = c.in-Ok-canonical.ensures in
-    not_built_said c.args.limits c.args.script.now c.lex.new.names c.in_ok-names.names _ c.in-Ok.tokens.items c.in-Ok-parse.tree c.trees.result.now c.in_ok-known.known c.first_unit.result l t j.0
-    (c.in_ok-names.ensures ∙ (c.names.ensures ∙ sym j.1)) (c.trees.ensures ∙ sym j.2) (c.in_ok-known.ensures.names) (c.in_ok-known.ensures.known) (c.in_ok-bodies.ensures) _ c.in-None.is c.form_refusal.ensures
+    not_built_said c.args.limits c.args.script.now c.lex.new.names c.in_ok-names.names _ c.in-Ok.tokens.items c.in-Ok-parse.tree c.trees.result.now c.in_ok-known.known c.in_ok-bodies.field-0 l t j.0
+    (c.in_ok-names.ensures ∙ (c.names-2.ensures ∙ sym j.1)) (c.trees.ensures ∙ sym j.2) (c.in_ok-known.ensures.names) (c.in_ok-known.ensures.known) (c.in_ok-bodies.ensures) _ c.in-None.is c.form_refusal.ensures
 
 pub returns : goal.returns
 returns c =
     let l : Lexes c.args.script.now c.lex.new.names c.in-Ok.tokens.items = record { spelled = c.in-Ok.ensures.tokens; named = c.in-Ok.ensures.named } in
     let t = rw (c.as_slice.ensures.value) at c.in-Ok-parse.ensures in
     let j = c.in-Ok-canonical.ensures in
-    run_said c.args.limits c.args.script.now c.lex.new.names c.in_ok-names.names _ c.in-Ok.tokens.items c.in-Ok-parse.tree c.trees.result.now c.in_ok-known.known c.first_unit.result l t j.0
-    (c.in_ok-names.ensures ∙ (c.names.ensures ∙ sym j.1)) (c.trees.ensures ∙ sym j.2) (c.in_ok-known.ensures.names) (c.in_ok-known.ensures.known) (c.in_ok-bodies.ensures) _ c.in-Some.is c.in_ok-texts.texts.keys _
+    run_said c.args.limits c.args.script.now c.lex.new.names c.in_ok-names.names _ c.in-Ok.tokens.items c.in-Ok-parse.tree c.trees.result.now c.in_ok-known.known c.in_ok-bodies.field-0 l t j.0
+    (c.in_ok-names.ensures ∙ (c.names-2.ensures ∙ sym j.1)) (c.trees.ensures ∙ sym j.2) (c.in_ok-known.ensures.names) (c.in_ok-known.ensures.known) (c.in_ok-bodies.ensures) _ c.in_ok-texts.texts.keys _ c.in-Some.is
     (rw (c.as_slice-2.ensures.value) at c.in_ok-texts.ensures) (c.in_ok-report.ensures)
