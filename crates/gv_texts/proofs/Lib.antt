@@ -1,0 +1,2 @@
+pub mod Backward
+mod Weights
