@@ -1,13 +1,15 @@
-//! Tests of the walks over values: their texts, their truth and whether two are equal. They are
+//! Tests of the walks over values: their texts, their truth, whether two are equal, and methods that hand them to a closure. They are
 //! tables of a value, the questions on the way, each with its answer, and the end.
 //!
 //! They stand in a crate of their own, since tests within a crate prove that crate once more.
 //!
-//! Where to begin: `texts.rt`, `truths.rt`, `equals.rt`; `world.rt` makes the heap that the tables speak of.
+//! Where to begin: `texts.rt`, `truths.rt`, `equals.rt`, `folds.rt`; `world.rt` makes the heap that the tables speak of.
 #![tactic(auto)]
 
 #[cfg(test)]
 mod equals;
+#[cfg(test)]
+mod folds;
 #[cfg(test)]
 mod texts;
 #[cfg(test)]
