@@ -14,8 +14,8 @@
 #![tactic(auto)]
 
 mod begins;
-mod out;
 mod printer;
+mod so_far;
 mod strings;
 mod tops;
 mod words;

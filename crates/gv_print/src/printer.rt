@@ -7,7 +7,7 @@ ghost use Rattle.gv_print.specs.Texts as texts;
 ghost use Rattle.gv_print.specs.Printed as spec;
 
 use crate::begins::begins_signed;
-use crate::out::{Out, deeper, new_line, part, put_if};
+use crate::so_far::{Out, deeper, new_line, part, put_if};
 use crate::strings::{Quotes, put_chars, put_string};
 use crate::words::{
     assign_text, binary_text, gap, is_behind, leave_text, member_text, put_atom, put_ident,

@@ -4,7 +4,7 @@ ghost use Rattle.std.specs.Prelude.{◌≡◌, [], ◌∷◌, MatchOption, IfSom
 ghost use Rattle.std.specs.Str.{chars};
 ghost use Rattle.gv_print.specs.Texts as spec;
 
-use crate::out::Out;
+use crate::so_far::Out;
 use gv_base::OutOfMemory;
 
 /// In which quotes a string stands.

@@ -4,8 +4,8 @@ ghost use Rattle.std.specs.Prelude.{◌≡◌, IfOk, OnOk, string_bytes};
 ghost use Rattle.gv_print.specs.Texts as texts;
 ghost use Rattle.gv_print.specs.Printed as spec;
 
-use crate::out::{Out, new_line, part, put_if};
 use crate::printer::{MOST_LEVELS, Printer};
+use crate::so_far::{Out, new_line, part, put_if};
 use crate::words::{put_answer, put_ident, put_idents, put_modifiers};
 use gv_base::{Names, OutOfMemory};
 use gv_tree::{

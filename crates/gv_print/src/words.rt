@@ -3,7 +3,7 @@
 ghost use Rattle.std.specs.Prelude.{◌≡◌, true, OnOk};
 ghost use Rattle.gv_print.specs.Texts as spec;
 
-use crate::out::{Out, part, put_if};
+use crate::so_far::{Out, part, put_if};
 use crate::strings::put_string;
 use gv_base::{Names, OutOfMemory};
 use gv_tree::{
