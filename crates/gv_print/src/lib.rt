@@ -1,4 +1,4 @@
-//! The text of a script's tree: a script that has the same tree, written in one fixed way.
+//! The text of a script's tree, written in one fixed way, so that whoever reads it sees the tree.
 //!
 //! One statement or member a line, two blanks for each level. Calls have parentheses, with closures among their arguments; a
 //! closure's statements stand on lines of their own, and what follows it goes on behind its `}`. A sign before a digit or a sign
