@@ -1,5 +1,5 @@
 -- What a fold does at each turn.
-use Rattle.std.specs.Prelude.{◌≡◌, ℕ, suc, ◌+◌, ◌≤◌, ◌<◌, Bool, true, false, List, [], ◌∷◌, ◌++◌, length, reverse, Option, Some, None, Result, Ok, Err, if◌then◌else◌}
+use Rattle.std.specs.Prelude.{◌≡◌, ℕ, ◌+◌, ◌≤◌, ◌<◌, Bool, true, false, List, ◌∷◌, length, reverse, Result, Ok, Err}
 use Rattle.std.specs.declared.alloc.AllocError.{AllocError}
 use Rattle.gv_base.specs.declared.value.Value.{Value}
 use Rattle.gv_base.specs.declared.value.Value.TheVariants.{Null, Bool as Truth, Obj}
@@ -27,7 +27,6 @@ use Rattle.gv_folds.specs.declared.source.Handed.{Handed}
 use Rattle.gv_folds.specs.declared.source.Handed.TheVariants.{Nothing, Element, Pair}
 use Rattle.gv_folds.specs.declared.source.Handing.{Handing}
 use Rattle.gv_folds.specs.declared.source.Handing.TheVariants.{NoMore, Hands, Makes}
-use Rattle.gv_folds.specs.declared.source.Source.{Source}
 use Rattle.gv_folds.specs.declared.turn.FoldTurn.{FoldTurn}
 use Rattle.gv_folds.specs.declared.turn.FoldTurn.TheVariants as turn
 
@@ -92,8 +91,8 @@ handing fold NoMore = ended fold.keeping
 handing fold (Hands handed args source) = Calls (record fold { source = source; handed = handed; pending = pending.Answer }) (with_kept fold.keeping args)
 handing fold (Makes key value source) = MakesEntry (record fold { source = source; pending = pending.Answer }) key value
 
-abbrev pub going : HeapState → Fold → Outcome
-going heap fold = handing fold (next heap fold.source)
+abbrev pub going : Fold → Outcome
+going fold = handing fold (next fold.source)
 
 abbrev pub keeping_with : Fold → Keeping → Fold
 keeping_with fold keeping = record fold { keeping = keeping }
@@ -113,25 +112,25 @@ kept (FoundAll vs) handed true = Goes (FoundAll (element_of handed ∷ vs))
 kept (Counted n) handed true = Goes (Counted (n + 1))
 kept keeping handed b = Goes keeping
 
-abbrev pub judged : HeapState → Fold → Kept → Outcome
-judged heap fold Finds = found fold.handed
-judged heap fold (IsSo b) = Answers (Truth b)
-judged heap fold (Goes keeping) = going heap (keeping_with fold keeping)
+abbrev pub judged : Fold → Kept → Outcome
+judged fold Finds = found fold.handed
+judged fold (IsSo b) = Answers (Truth b)
+judged fold (Goes keeping) = going (keeping_with fold keeping)
 
-abbrev pub judging : HeapState → Fold → TruthTurn → Outcome
-judging heap fold (truth.Is b) = judged heap fold (kept fold.keeping fold.handed b)
-judging heap fold (truth.Asks walk receiver question) = Asks (record fold { pending = pending.Truth walk }) receiver question
+abbrev pub judging : Fold → TruthTurn → Outcome
+judging fold (truth.Is b) = judged fold (kept fold.keeping fold.handed b)
+judging fold (truth.Asks walk receiver question) = Asks (record fold { pending = pending.Truth walk }) receiver question
 
 module _ (names : List (List ℕ)) (classes : List Declared) where
   abbrev pub answered_by : Keeping → HeapState → Fold → Value → Outcome
-  answered_by (Each v) heap fold answer = going heap fold
-  answered_by (Collected vs) heap fold answer = going heap (keeping_with fold (Collected (answer ∷ vs)))
-  answered_by (Injected v) heap fold answer = going heap (keeping_with fold (Injected answer))
-  answered_by keeping heap fold answer = judging heap fold (truths.started names classes heap answer)
+  answered_by (Each v) heap fold answer = going fold
+  answered_by (Collected vs) heap fold answer = going (keeping_with fold (Collected (answer ∷ vs)))
+  answered_by (Injected v) heap fold answer = going (keeping_with fold (Injected answer))
+  answered_by keeping heap fold answer = judging fold (truths.started names classes heap answer)
 
   abbrev pub resumed_by : Pending → HeapState → Fold → Value → Outcome
   resumed_by pending.Answer heap fold answer = answered_by fold.keeping heap fold answer
-  resumed_by (pending.Truth walk) heap fold answer = judging heap fold (truths.resumed names classes heap walk answer)
+  resumed_by (pending.Truth walk) heap fold answer = judging fold (truths.resumed names classes heap walk answer)
 
   abbrev pub resumed : HeapState → Fold → Value → Outcome
   resumed heap fold answer = resumed_by fold.pending heap fold answer

@@ -1,18 +1,16 @@
 -- The folds with which methods begin.
-use Rattle.std.specs.Prelude.{ℕ, ℤ, pos, ◌-ℤ◌, int_lt, Bool, true, false, List, [], ◌∷◌, map, codes, bytes_eq, Option, Some, None, if◌then◌else◌}
+use Rattle.std.specs.Prelude.{ℕ, pos, ◌-ℤ◌, Bool, false, List, [], ◌∷◌, codes, bytes_eq, if◌then◌else◌}
 use Rattle.gv_base.specs.declared.value.Value.{Value}
 use Rattle.gv_base.specs.declared.value.Value.TheVariants.{Null, Int, Long, Obj}
-use Rattle.gv_heap.specs.Heap.{HeapState, object_at, map_at}
+use Rattle.gv_elements.specs.Elements.{values_between}
+use Rattle.gv_heap.specs.Heap.{HeapState, map_at}
 use Rattle.gv_heap.specs.declared.entries.Slot.{Slot}
 use Rattle.gv_heap.specs.declared.key.MapKey.{MapKey}
-use Rattle.gv_heap.specs.declared.object.Object.{Object}
-use Rattle.gv_heap.specs.declared.object.Object.TheVariants as object
+use Rattle.gv_rows.specs.Values.{sequence_at}
 use Rattle.gv_folds.specs.declared.fold.Fold.{Fold}
 use Rattle.gv_folds.specs.declared.fold.Keeping.{Keeping}
 use Rattle.gv_folds.specs.declared.fold.Keeping.TheVariants.{Each, Collected, Found, FoundAll, Any, Every, Injected, Counted}
 use Rattle.gv_folds.specs.declared.fold.Pending.TheVariants.{Answer}
-use Rattle.gv_folds.specs.declared.source.Elements.{Elements}
-use Rattle.gv_folds.specs.declared.source.Elements.TheVariants.{Held, Range, Ints, Longs}
 use Rattle.gv_folds.specs.declared.source.Handed.TheVariants.{Nothing}
 use Rattle.gv_folds.specs.declared.source.Source.{Source}
 use Rattle.gv_folds.specs.declared.source.Source.TheVariants.{Plain, Indexed, Entries}
@@ -44,19 +42,11 @@ first_of (x ∷ xs) = x
 
 -- ---- lists and ranges
 
-abbrev pub elements_of : ℕ → Option Object → Elements
-elements_of id (Some (object.Range range)) = Range id 0
-elements_of id (Some (object.List elements)) = Held elements
-elements_of id other = Held []
-
-abbrev pub elements_at : HeapState → ℕ → Elements
-elements_at heap id = elements_of id (object_at heap id)
-
-abbrev pub list_source : List ℕ → Elements → Source
+abbrev pub list_source : List ℕ → List Value → Source
 list_source name elements = if bytes_eq name (codes "eachWithIndex") then Indexed 0 elements else Plain elements
 
 abbrev pub list_fold : HeapState → List ℕ → ℕ → List Value → Fold
-list_fold heap name id args = new_fold (closure_of args) (list_source name (elements_at heap id)) (keeping name (Obj id) (first_of args))
+list_fold heap name id args = new_fold (closure_of args) (list_source name (sequence_at heap id)) (keeping name (Obj id) (first_of args))
 
 -- ---- maps
 
@@ -70,28 +60,14 @@ map_fold heap name id takes_two closure = new_fold closure (Entries takes_two (s
 
 -- ---- numbers
 
-abbrev pub longs : ℤ → ℤ → Bool → Elements
-longs first last down = Longs (Some first) last down
-
-abbrev pub nothing : Bool → Elements
-nothing down = Ints None (pos 0) down
-
 -- the numbers below one, from 0 on
-abbrev pub below : Value → Elements
-below (Int n) = if int_lt (pos 0) n then Ints (Some (pos 0)) (n -ℤ pos 1) false else nothing false
-below (Long n) = if int_lt (pos 0) n then longs (pos 0) (n -ℤ pos 1) false else nothing false
-below v = nothing false
+abbrev pub below : Value → List Value
+below (Int n) = values_between (Int (pos 0)) (Int (n -ℤ pos 1)) false
+below (Long n) = values_between (Long (pos 0)) (Long (n -ℤ pos 1)) false
+below v = []
 
 abbrev pub times_fold : Value → Value → Fold
 times_fold count closure = new_fold closure (Plain (below count)) (Each Null)
 
--- Longs where one of the two is a Long
-abbrev pub between : Value → Value → Bool → Elements
-between (Int first) (Int last) down = Ints (Some first) last down
-between (Int first) (Long last) down = longs first last down
-between (Long first) (Int last) down = longs first last down
-between (Long first) (Long last) down = longs first last down
-between first last down = nothing down
-
 abbrev pub range_fold : Value → Value → Bool → Value → Fold
-range_fold first last down closure = new_fold closure (Plain (between first last down)) (Each Null)
+range_fold first last down closure = new_fold closure (Plain (values_between first last down)) (Each Null)

@@ -20,5 +20,5 @@ mod turn;
 
 pub use fold::{Fold, Keeping, Pending};
 pub use rows::{list_fold, map_fold, range_fold, times_fold};
-pub use source::{Args, Elements, Handed, Source};
+pub use source::{Args, Handed, Handing, Source, next};
 pub use turn::{FoldTurn, go, resume_fold};

@@ -5,9 +5,10 @@ ghost use Rattle.gv_heap.specs.Heap.{map_at};
 ghost use Rattle.gv_folds.specs.Rows as spec;
 
 use crate::fold::{Fold, Keeping, Pending};
-use crate::source::{Elements, Handed, Source};
+use crate::source::{Handed, Source};
 use gv_base::{ObjId, OutOfMemory, Value};
 use gv_code::Stack;
+use gv_elements::Elements;
 use gv_heap::{Entries, Heap, Object};
 use std::alloc::Global;
 
@@ -21,7 +22,7 @@ pub fn list_fold(
 ) -> Result<Fold, OutOfMemory>
     ensures { IfOk result (λ fold. fold ≡ spec.list_fold heap.now name.now list args.now) }
 {
-    let elements = elements_at(alloc, heap, list)?;
+    let elements = Elements::at(alloc, heap, list)?;
     let source = match name {
         "eachWithIndex" => Source::Indexed { at: 0, elements },
         _ => Source::Plain(elements),
@@ -54,53 +55,33 @@ pub fn map_fold(
 pub fn times_fold(count: Value, closure: Value) -> Fold
     ensures { result ≡ spec.times_fold count closure }
 {
-    let elements = match count {
-        Value::Int(n) if n > 0 => Elements::Ints {
-            next: Some(0),
-            last: n - 1,
-            down: false,
-        },
-        Value::Long(n) if n > 0 => longs(0, n - 1, false),
-        _ => nothing(false),
-    };
-    new_fold(closure, Source::Plain(elements), Keeping::Each(Value::Null))
+    new_fold(
+        closure,
+        Source::Plain(below(count)),
+        Keeping::Each(Value::Null),
+    )
 }
 
 /// The fold of `upto`, or of `downto`, from a number to another one.
 pub fn range_fold(first: Value, last: Value, down: bool, closure: Value) -> Fold
     ensures { result ≡ spec.range_fold first last down closure }
 {
-    let elements = match (first, last) {
-        (Value::Int(first), Value::Int(last)) => Elements::Ints {
-            next: Some(first),
-            last,
-            down,
-        },
-        (Value::Int(first), Value::Long(last)) => longs(first.into(), last, down),
-        (Value::Long(first), Value::Int(last)) => longs(first, last.into(), down),
-        (Value::Long(first), Value::Long(last)) => longs(first, last, down),
-        _ => nothing(down),
+    let elements = if down {
+        Elements::downto(first, last)
+    } else {
+        Elements::upto(first, last)
     };
     new_fold(closure, Source::Plain(elements), Keeping::Each(Value::Null))
 }
 
-fn nothing(down: bool) -> Elements
-    ensures { result ≡ spec.nothing down }
+/// The numbers below one, from 0 on.
+fn below(count: Value) -> Elements
+    ensures { result ≡ spec.below count }
 {
-    Elements::Ints {
-        next: None,
-        last: 0,
-        down,
-    }
-}
-
-fn longs(first: i64, last: i64, down: bool) -> Elements
-    ensures { result ≡ spec.longs first last down }
-{
-    Elements::Longs {
-        next: Some(first),
-        last,
-        down,
+    match count {
+        Value::Int(n) if n > 0 => Elements::upto(Value::Int(0), Value::Int(n - 1)),
+        Value::Long(n) if n > 0 => Elements::upto(Value::Long(0), Value::Long(n - 1)),
+        _ => Elements::upto(Value::Int(0), Value::Int(-1)),
     }
 }
 
@@ -130,34 +111,6 @@ fn new_fold(closure: Value, source: Source, keeping: Keeping) -> Fold
         handed: Handed::Nothing,
         pending: Pending::Answer,
     }
-}
-
-/// The elements of a list as they are now, or those of a range.
-fn elements_at(alloc: Global, heap: &Heap, list: ObjId) -> Result<Elements, OutOfMemory>
-    ensures { IfOk result (λ elements. elements ≡ spec.elements_at heap.now list) }
-{
-    match heap.get(list) {
-        Some(Object::Range(_)) => Ok(Elements::Range { range: list, at: 0 }),
-        Some(Object::List(elements)) => {
-            let mut values = Stack::new(alloc);
-            put_all(elements.as_slice(), &mut values)?;
-            Ok(Elements::Held(values))
-        }
-        _ => Ok(Elements::Held(Stack::new(alloc))),
-    }
-}
-
-/// Puts values on a stack, the first one on top.
-fn put_all(elements: &[Value], values: &mut Stack<Value>) -> Result<(), OutOfMemory>
-    requires { values.old ≡ [] }
-    ensures { OnOk result (values.new ≡ elements.now) }
-{
-    let mut at = elements.len();
-    while at > 0 {
-        at -= 1;
-        values.push(elements[at])?;
-    }
-    Ok(())
 }
 
 /// Puts a map's entries on a stack, the first one on top.

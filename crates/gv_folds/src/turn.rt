@@ -35,7 +35,7 @@ pub enum FoldTurn {
 
 /// The next turn of a fold that waits for no answer: its first one, where it is new.
 pub fn go(alloc: Global, heap: &mut Heap, fold: Fold) -> Result<FoldTurn, OutOfMemory>
-    ensures { spec.Turns heap.old (spec.going heap.old fold) result heap.new }
+    ensures { spec.Turns heap.old (spec.going fold) result heap.new }
 {
     let Fold {
         closure,
@@ -44,7 +44,7 @@ pub fn go(alloc: Global, heap: &mut Heap, fold: Fold) -> Result<FoldTurn, OutOfM
         handed,
         pending,
     } = fold;
-    match next(heap, source)? {
+    match next(source)? {
         Handing::NoMore => ended(alloc, heap, keeping),
         Handing::Hands {
             handed,
@@ -177,7 +177,7 @@ fn judging(
     fold: Fold,
     turn: TruthTurn,
 ) -> Result<FoldTurn, OutOfMemory>
-    ensures { spec.Turns heap.old (spec.judging heap.old fold turn) result heap.new }
+    ensures { spec.Turns heap.old (spec.judging fold turn) result heap.new }
 {
     match turn {
         TruthTurn::Is(holds) => judged(alloc, heap, fold, holds),
@@ -210,7 +210,7 @@ fn judging(
 
 /// The turn behind an answer that is true or isn't.
 fn judged(alloc: Global, heap: &mut Heap, fold: Fold, holds: bool) -> Result<FoldTurn, OutOfMemory>
-    ensures { spec.Turns heap.old (spec.judged heap.old fold (spec.kept fold.keeping fold.handed holds)) result heap.new }
+    ensures { spec.Turns heap.old (spec.judged fold (spec.kept fold.keeping fold.handed holds)) result heap.new }
 {
     let Fold {
         closure,

@@ -1,4 +1,4 @@
-use Rattle.std.proofs.Common.{◌≡◌, ◌∙◌, refl, arith}
+use Rattle.std.proofs.Common.{◌∙◌, refl, arith}
 use Rattle.gv_texts.proofs.Backward.{drop_before}
 use Rattle.gv_folds.proofs.rows.put_entries.Goals as goal
 

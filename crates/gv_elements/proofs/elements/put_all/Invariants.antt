@@ -1,5 +1,5 @@
 use Rattle.std.proofs.Common.{◌≡◌, ◌≤◌, length, drop}
-use Rattle.gv_folds.proofs.rows.put_all.Given as goal
+use Rattle.gv_elements.proofs.elements.put_all.Given as goal
 
 abbrev pub invariant-loop-at : goal.invariant-loop-at
 invariant-loop-at l = (in_range : l.at ≤ length l.elements) × (l.values ≡ drop l.at l.elements)

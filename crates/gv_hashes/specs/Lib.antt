@@ -1,0 +1,4 @@
+pub mod Hashes
+pub mod Laws
+pub mod Opened
+pub mod Rules
