@@ -48,6 +48,15 @@ impl Model for Elements {
 }
 
 impl Elements {
+    /// Those on a stack, the top one first.
+    pub fn held(values: Stack<Value>) -> Elements
+        ensures { result ≡ values }
+    {
+        Elements {
+            source: Source::Held(values),
+        }
+    }
+
     /// Those of a list as they are now, or those of a range; none where it is another object, or none.
     pub fn at(alloc: Global, heap: &Heap, id: ObjId) -> Result<Elements, OutOfMemory>
         ensures { IfOk result (λ elements. elements ≡ sequence_at heap.now id) }
@@ -57,9 +66,9 @@ impl Elements {
             Some(Object::List(elements)) => {
                 let mut values = Stack::new(alloc);
                 put_all(elements.as_slice(), &mut values)?;
-                Ok(held(values))
+                Ok(Elements::held(values))
             }
-            _ => Ok(held(Stack::new(alloc))),
+            _ => Ok(Elements::held(Stack::new(alloc))),
         }
     }
 
@@ -94,7 +103,7 @@ fn next_held(values: Stack<Value>) -> Option<(Value, Elements)>
 {
     let mut values = values;
     let value = values.pop()?;
-    Some((value, held(values)))
+    Some((value, Elements::held(values)))
 }
 
 #[tactic(auto, using(crate::proofs::Numbers::between_up, crate::proofs::Numbers::between_down))]
@@ -165,14 +174,6 @@ fn numbers(long: bool, first: i64, last: i64, down: bool) -> Elements
         longs(Some(first), last, down)
     } else {
         ints(Some(first as i32), last as i32, down)
-    }
-}
-
-fn held(values: Stack<Value>) -> Elements
-    ensures { result ≡ values }
-{
-    Elements {
-        source: Source::Held(values),
     }
 }
 
