@@ -1,8 +1,9 @@
 -- The call that each method asks for.
-use Rattle.std.specs.Prelude.{◌≡◌, ℕ, ◌-◌, ◌≤◌, ◌<◌, Bool, true, false, ◌&&◌, List, [], ◌∷◌, length, take, slice_get, codes, Option, Some, None, if◌then◌else◌}
+use Rattle.std.specs.Prelude.{◌≡◌, ◌-◌, ◌≤◌, ◌<◌, Bool, true, false, ◌&&◌, List, [], ◌∷◌, length, take, slice_get, codes, Option, Some, None, if◌then◌else◌}
 use Rattle.gv_base.specs.declared.exception.ExceptionKind.TheVariants.{IllegalArgumentException}
 use Rattle.gv_base.specs.declared.value.Value.{Value}
 use Rattle.gv_base.specs.declared.value.Value.TheVariants.{Null, Class, Obj}
+use Rattle.gv_frames.specs.Frames.{Unless}
 use Rattle.gv_frames.specs.declared.called.Called.{Called}
 use Rattle.gv_frames.specs.declared.called.Called.TheVariants as called
 use Rattle.gv_frames.specs.declared.frame.Turn.{Turn}
@@ -13,6 +14,7 @@ use Rattle.gv_heap.specs.Prices.{closure_price}
 use Rattle.gv_heap.specs.declared.closure.Closure.{Closure}
 use Rattle.gv_heap.specs.declared.object.Object.{Object}
 use Rattle.gv_heap.specs.declared.object.Object.TheVariants as object
+use Rattle.gv_rows.specs.Reply.{said}
 use Rattle.gv_rows.specs.Takes.{is_closure}
 
 abbrev pub one_call : Value → Called → List Value → Turn
@@ -69,12 +71,10 @@ abbrev pub takes : HeapState → List Value → Bool
 takes heap args = ends_with_closure heap (slice_get args (length args - 1)) && opens heap (take (length args - 1) args)
 
 abbrev pub bad_arguments : Turn
-bad_arguments = Thrown IllegalArgumentException (Some (codes "Bad arguments: use"))
+bad_arguments = Thrown IllegalArgumentException (said (codes "Bad arguments: ") (codes "use"))
 
 abbrev pub used : HeapState → Value → List Value → Turn
 used heap receiver args = if takes heap args then one_call receiver called.Use args else bad_arguments
 
--- want of memory says nothing
 abbrev pub Uses : HeapState → Value → List Value → Turn → Type 0
-Uses heap receiver args OutOfMemory = Unit {0}
-Uses heap receiver args result = result ≡ used heap receiver args
+Uses heap receiver args result = Unless result (result ≡ used heap receiver args)

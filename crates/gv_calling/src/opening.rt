@@ -2,6 +2,7 @@
 
 ghost use Rattle.std.specs.Prelude.{◌≡◌, option_copied};
 ghost use Rattle.gv_calling.specs.Calling as spec;
+ghost use Rattle.gv_frames.specs.Frames.{Unless};
 
 use crate::calling::{is_closure, one_call};
 use gv_base::{ExceptionKind, Value};
@@ -18,12 +19,14 @@ pub fn start_use(alloc: Global, heap: &Heap, receiver: Value, args: Items<Value>
     if takes(heap, args.as_slice()) {
         return one_call(receiver, Called::Use, args);
     }
-    match throw_joined(
-        alloc,
-        ExceptionKind::IllegalArgumentException,
-        "Bad arguments: ",
-        "use",
-    ) {
+    bad_arguments(alloc)
+}
+
+fn bad_arguments(alloc: Global) -> Turn
+    ensures { Unless result (result ≡ spec.bad_arguments) }
+{
+    let kind = ExceptionKind::IllegalArgumentException;
+    match throw_joined(alloc, kind, "Bad arguments: ", "use") {
         Done::Thrown(kind, message) => Turn::Thrown(kind, message),
         _ => Turn::OutOfMemory,
     }
