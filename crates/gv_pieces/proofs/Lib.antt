@@ -1,0 +1,4 @@
+mod Agree
+mod Words
+mod Forms
+mod Table
