@@ -7,8 +7,9 @@ use Rattle.gv_folds.specs.Folds as folds
 use Rattle.gv_hashes.specs.Hashes as hashes
 use Rattle.gv_heap.specs.Heap.{HeapState}
 use Rattle.gv_says.specs.Says as says
+use Rattle.gv_searches.specs.Searches as searches
 use Rattle.gv_truths.specs.Truths as truths
-use Rattle.gv_frames.specs.Turns.{truth_turn, equal_turn, hash_turn, said_turn, fold_turn}
+use Rattle.gv_frames.specs.Turns.{truth_turn, equal_turn, hash_turn, said_turn, fold_turn, search_turn}
 use Rattle.gv_frames.specs.declared.frame.Turn.{Turn}
 use Rattle.gv_frames.specs.declared.frame.Turn.TheVariants.{Done, OutOfMemory}
 use Rattle.gv_frames.specs.declared.frame.WalkFrame.{WalkFrame}
@@ -36,6 +37,7 @@ module _ (names : List (List ℕ)) (classes : List Declared) (old : HeapState) w
   Resumed (frame.Hash walk) answer result new = Is old (hash_turn names classes old (hashes.resumed names classes old walk answer)) result new
   Resumed (frame.Said saying) answer result new = Comes (says.Turned old (says.resumed names classes old saying answer)) said_turn result new
   Resumed (frame.Fold fold) answer result new = Comes (folds.Turned old (folds.resumed names classes old fold answer)) fold_turn result new
+  Resumed (frame.Search search) answer result new = Comes (searches.Turned old (searches.resumed names classes old search answer)) search_turn result new
 
   abbrev pub Resumes : WalkFrame → Value → Turn → HeapState → Type 0
   Resumes waits answer result new = Unless result (Resumed waits answer result new)

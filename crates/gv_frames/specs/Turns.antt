@@ -16,6 +16,8 @@ use Rattle.gv_heap.specs.Heap.{HeapState}
 use Rattle.gv_rows.specs.Values.{class_of, class_text}
 use Rattle.gv_says.specs.declared.saying.SaidTurn.{SaidTurn}
 use Rattle.gv_says.specs.declared.saying.SaidTurn.TheVariants as said
+use Rattle.gv_searches.specs.declared.turn.SearchTurn.{SearchTurn}
+use Rattle.gv_searches.specs.declared.turn.SearchTurn.TheVariants as search
 use Rattle.gv_texts.specs.Questions.{argument_of}
 use Rattle.gv_texts.specs.declared.question.Question.{Question}
 use Rattle.gv_texts.specs.declared.question.Question.TheVariants as question
@@ -69,6 +71,10 @@ said_turn (said.Asks saying receiver q) = asked (frame.Said saying) receiver q
 said_turn (said.Print text) = Print text
 said_turn (said.Done v) = Done v
 said_turn said.CellsSpent = CellsSpent
+
+abbrev pub search_turn : SearchTurn → Turn
+search_turn (search.Asks s receiver q) = asked (frame.Search s) receiver q
+search_turn (search.Done v) = Done v
 
 abbrev pub values_of : Args → List Value
 values_of (One v) = v ∷ []

@@ -7,6 +7,7 @@ use gv_folds::Fold;
 use gv_hashes::HashWalk;
 use gv_rows::Message;
 use gv_says::Saying;
+use gv_searches::Search;
 use gv_truths::TruthWalk;
 use sqlite_items::Items;
 
@@ -22,6 +23,7 @@ pub enum WalkFrame {
     Hash(HashWalk),
     Said(Saying),
     Fold(Fold),
+    Search(Search),
 }
 
 /// What a method comes to.

@@ -5,9 +5,10 @@ ghost use Rattle.gv_frames.specs.Frames as spec;
 ghost use Rattle.gv_frames.specs.Turns as turns;
 ghost use Rattle.gv_folds.specs.Folds as folds;
 ghost use Rattle.gv_says.specs.Says as says;
+ghost use Rattle.gv_searches.specs.Searches as searches;
 
 use crate::frame::{Turn, WalkFrame};
-use crate::turns::{equal_turn, fold_turn, hash_turn, said_turn, truth_turn};
+use crate::turns::{equal_turn, fold_turn, hash_turn, said_turn, search_turn, truth_turn};
 use gv_base::{Names, OutOfMemory, Value};
 use gv_classes::Classes;
 use gv_equals::resume_equals;
@@ -15,6 +16,7 @@ use gv_folds::{Fold, resume_fold};
 use gv_hashes::resume_hash;
 use gv_heap::Heap;
 use gv_says::{Saying, resume_saying};
+use gv_searches::{Search, resume_search};
 use gv_truths::{resume_truth, start_truth};
 use std::alloc::Global;
 
@@ -62,6 +64,7 @@ fn resumed(
         }
         WalkFrame::Said(saying) => resumed_saying(alloc, names, classes, heap, saying, answer),
         WalkFrame::Fold(fold) => resumed_fold(alloc, names, classes, heap, fold, answer),
+        WalkFrame::Search(search) => resumed_search(alloc, names, classes, heap, search, answer),
     }
 }
 
@@ -94,5 +97,21 @@ fn resumed_fold(
     fold_turn(
         alloc,
         resume_fold(alloc, names, classes, heap, fold, answer)?,
+    )
+}
+
+fn resumed_search(
+    alloc: Global,
+    names: &Names,
+    classes: &Classes,
+    heap: &mut Heap,
+    search: Search,
+    answer: Value,
+) -> Result<Turn, OutOfMemory>
+    ensures { IfOk result (λ turn. spec.Comes (searches.Turned heap.old (searches.resumed names.now classes.now heap.old search answer)) turns.search_turn turn heap.new) }
+{
+    search_turn(
+        alloc,
+        resume_search(alloc, names, classes, heap, search, answer)?,
     )
 }

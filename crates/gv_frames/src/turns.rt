@@ -13,6 +13,7 @@ use gv_hashes::HashTurn;
 use gv_heap::Heap;
 use gv_rows::{Message, class_name, class_of};
 use gv_says::SaidTurn;
+use gv_searches::SearchTurn;
 use gv_texts::Question;
 use gv_truths::TruthTurn;
 use sqlite_items::Items;
@@ -142,6 +143,19 @@ pub(crate) fn fold_turn(alloc: Global, turn: FoldTurn) -> Result<Turn, OutOfMemo
         } => asked(alloc, WalkFrame::Fold(fold), receiver, question),
         FoldTurn::Done(value) => Ok(Turn::Done(value)),
         FoldTurn::CellsSpent => Ok(Turn::CellsSpent),
+    }
+}
+
+pub(crate) fn search_turn(alloc: Global, turn: SearchTurn) -> Result<Turn, OutOfMemory>
+    ensures { IfOk result (λ lifted. lifted ≡ spec.search_turn turn) }
+{
+    match turn {
+        SearchTurn::Asks {
+            search,
+            receiver,
+            question,
+        } => asked(alloc, WalkFrame::Search(search), receiver, question),
+        SearchTurn::Done(value) => Ok(Turn::Done(value)),
     }
 }
 
