@@ -1,0 +1,6 @@
+mod Apart
+mod Entries
+mod Growing
+mod Lists
+mod Prices
+mod Put
