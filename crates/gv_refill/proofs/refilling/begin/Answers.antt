@@ -1,4 +1,4 @@
-use Rattle.std.proofs.Common.{◌≡◌, ◌≤◌, ◌<◌, get_or, length, slice_set, ap, ◌∙◌, arith}
+use Rattle.std.proofs.Common.{get_or, slice_set, ap, ◌∙◌, arith}
 use Rattle.gv_base.specs.declared.value.Value.TheVariants.{Null}
 use Rattle.gv_heap.specs.Heap.{list_at, with_list}
 use Rattle.gv_refill.proofs.Heaps.{begun_nothing, begun_more}
