@@ -1,0 +1,5 @@
+pub mod Flat
+pub mod Joins
+pub mod Laws
+pub mod Sums
+pub mod Texts
