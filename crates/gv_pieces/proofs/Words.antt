@@ -27,7 +27,6 @@ use Rattle.gv_spelling.specs.declared.kinds.Symbol.TheVariants as symbol
 use Rattle.gv_print.specs.declared.strings.Quotes.{Quotes}
 use Rattle.gv_print.specs.declared.strings.Quotes.TheVariants as quotes
 use Rattle.gv_pieces.specs.Pieces.{Piece, Blank, Line, Symbol, Keyword, Name, Int, Long, Open, Chars, PartOpen, PartClose, Close, texts_of}
-
 use Rattle.std.specs.Fmt.{signed_decimal}
 use Rattle.gv_print.specs.Texts as texts
 use Rattle.gv_pieces.specs.Words as words

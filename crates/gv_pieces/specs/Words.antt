@@ -73,7 +73,6 @@ string_pieced name so_far = chars_pieced quotes.Single name (so_far ++ Open quot
 
 -- ---- operators
 
-
 abbrev pub unary_pieces : UnaryOp → List Piece
 unary_pieces unary.Not = Symbol symbol.Not ∷ []
 unary_pieces unary.Minus = Symbol symbol.Minus ∷ []
