@@ -1,5 +1,10 @@
 use super::{End, ended};
+use gv_base::Names;
+use gv_classes::Classes;
+use gv_lex::lex;
+use gv_phases::{Known, ResolveError, resolve};
 use gv_scopes::{Meaning, shared};
+use gv_stmts::parse;
 use std::alloc::Global;
 use std::test::Fail;
 
@@ -64,6 +69,45 @@ fn what_closures_capture(rt: HostRuntime) -> Result<(), Fail> {
             assert!(rt; !shared(resolved, 1));
             assert!(rt; !shared(resolved, 2));
         }
+    }
+    Ok(())
+}
+
+/// What the first name of one script means, or the kind that it is refused with; -9 where there is neither.
+fn resolved_alone(alloc: Global, script: &str) -> Result<i32, Fail> {
+    if script.len() > 1000 {
+        return Ok(-9);
+    }
+    let mut names = Names::new(alloc);
+    let Ok(tokens) = lex(alloc, 0, script.as_bytes(), &mut names) else {
+        return Ok(-9);
+    };
+    let Ok(tree) = parse(alloc, tokens.as_slice()) else {
+        return Ok(-9);
+    };
+    let known = Known::new(&mut names)?;
+    let classes = Classes::new(alloc, &mut names)?;
+    Ok(match resolve(alloc, &known, &classes, 0, &tree) {
+        Ok(resolved) => match resolved.uses.as_slice().first() {
+            Some(meaning) => number(*meaning),
+            None => -9,
+        },
+        Err(ResolveError::Refused(refusal)) => i32::from(refusal.kind.number()),
+        Err(ResolveError::OutOfMemory) => -9,
+    })
+}
+
+#[test]
+fn one_script_resolved(rt: HostRuntime) -> Result<(), Fail> {
+    let table = [
+        ("def x = 1; x", 0),
+        ("x", -1),
+        ("def f = { owner }", -4),
+        ("Missing m = null", 21),
+        ("break", 28),
+    ];
+    for (script, wanted) in table {
+        assert_eq!(rt; resolved_alone(rt.alloc(), script)?, wanted, "{script}");
     }
     Ok(())
 }
