@@ -2,6 +2,7 @@
 use Rattle.std.specs.Prelude.{◌≡◌, ℕ, List}
 use Rattle.gv_base.specs.declared.value.Value.{Value}
 use Rattle.gv_classes.specs.declared.declared.Declared.{Declared}
+use Rattle.gv_distinct.specs.Distinct as distincts
 use Rattle.gv_equals.specs.Equals as equals
 use Rattle.gv_folds.specs.Folds as folds
 use Rattle.gv_hashes.specs.Hashes as hashes
@@ -9,7 +10,7 @@ use Rattle.gv_heap.specs.Heap.{HeapState}
 use Rattle.gv_says.specs.Says as says
 use Rattle.gv_searches.specs.Searches as searches
 use Rattle.gv_truths.specs.Truths as truths
-use Rattle.gv_frames.specs.Turns.{truth_turn, equal_turn, hash_turn, said_turn, fold_turn, search_turn}
+use Rattle.gv_frames.specs.Turns.{truth_turn, equal_turn, hash_turn, said_turn, fold_turn, search_turn, distinct_turn}
 use Rattle.gv_frames.specs.declared.frame.Turn.{Turn}
 use Rattle.gv_frames.specs.declared.frame.Turn.TheVariants.{Done, OutOfMemory}
 use Rattle.gv_frames.specs.declared.frame.WalkFrame.{WalkFrame}
@@ -38,6 +39,7 @@ module _ (names : List (List ℕ)) (classes : List Declared) (old : HeapState) w
   Resumed (frame.Said saying) answer result new = Comes (says.Turned old (says.resumed names classes old saying answer)) said_turn result new
   Resumed (frame.Fold fold) answer result new = Comes (folds.Turned old (folds.resumed names classes old fold answer)) fold_turn result new
   Resumed (frame.Search search) answer result new = Comes (searches.Turned old (searches.resumed names classes old search answer)) search_turn result new
+  Resumed (frame.Distinct distinct) answer result new = Comes (distincts.Turned old (distincts.resumed names classes old distinct answer)) distinct_turn result new
 
   abbrev pub Resumes : WalkFrame → Value → Turn → HeapState → Type 0
   Resumes waits answer result new = Unless result (Resumed waits answer result new)

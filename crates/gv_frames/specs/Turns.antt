@@ -4,6 +4,8 @@ use Rattle.gv_base.specs.declared.exception.ExceptionKind.TheVariants.{GroovyCas
 use Rattle.gv_base.specs.declared.value.Value.{Value}
 use Rattle.gv_base.specs.declared.value.Value.TheVariants.{Null, Bool as Truth, Int}
 use Rattle.gv_classes.specs.declared.declared.Declared.{Declared}
+use Rattle.gv_distinct.specs.declared.turn.DistinctTurn.{DistinctTurn}
+use Rattle.gv_distinct.specs.declared.turn.DistinctTurn.TheVariants as distinct
 use Rattle.gv_equals.specs.declared.walk.EqualTurn.{EqualTurn}
 use Rattle.gv_equals.specs.declared.walk.EqualTurn.TheVariants as equal
 use Rattle.gv_folds.specs.declared.source.Args.{Args}
@@ -75,6 +77,11 @@ said_turn said.CellsSpent = CellsSpent
 abbrev pub search_turn : SearchTurn → Turn
 search_turn (search.Asks s receiver q) = asked (frame.Search s) receiver q
 search_turn (search.Done v) = Done v
+
+abbrev pub distinct_turn : DistinctTurn → Turn
+distinct_turn (distinct.Asks d receiver q) = asked (frame.Distinct d) receiver q
+distinct_turn (distinct.Done v) = Done v
+distinct_turn distinct.CellsSpent = CellsSpent
 
 abbrev pub values_of : Args → List Value
 values_of (One v) = v ∷ []

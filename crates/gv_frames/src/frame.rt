@@ -2,6 +2,7 @@
 
 use crate::called::Called;
 use gv_base::{ExceptionKind, Text, Value};
+use gv_distinct::Distinct;
 use gv_equals::EqualWalk;
 use gv_folds::Fold;
 use gv_hashes::HashWalk;
@@ -24,6 +25,7 @@ pub enum WalkFrame {
     Said(Saying),
     Fold(Fold),
     Search(Search),
+    Distinct(Distinct),
 }
 
 /// What a method comes to.

@@ -3,14 +3,18 @@
 ghost use Rattle.std.specs.Prelude.{◌≡◌, IfOk};
 ghost use Rattle.gv_frames.specs.Frames as spec;
 ghost use Rattle.gv_frames.specs.Turns as turns;
+ghost use Rattle.gv_distinct.specs.Distinct as distincts;
 ghost use Rattle.gv_folds.specs.Folds as folds;
 ghost use Rattle.gv_says.specs.Says as says;
 ghost use Rattle.gv_searches.specs.Searches as searches;
 
 use crate::frame::{Turn, WalkFrame};
-use crate::turns::{equal_turn, fold_turn, hash_turn, said_turn, search_turn, truth_turn};
+use crate::turns::{
+    distinct_turn, equal_turn, fold_turn, hash_turn, said_turn, search_turn, truth_turn,
+};
 use gv_base::{Names, OutOfMemory, Value};
 use gv_classes::Classes;
+use gv_distinct::{Distinct, resume_distinct};
 use gv_equals::resume_equals;
 use gv_folds::{Fold, resume_fold};
 use gv_hashes::resume_hash;
@@ -65,6 +69,9 @@ fn resumed(
         WalkFrame::Said(saying) => resumed_saying(alloc, names, classes, heap, saying, answer),
         WalkFrame::Fold(fold) => resumed_fold(alloc, names, classes, heap, fold, answer),
         WalkFrame::Search(search) => resumed_search(alloc, names, classes, heap, search, answer),
+        WalkFrame::Distinct(distinct) => {
+            resumed_distinct(alloc, names, classes, heap, distinct, answer)
+        }
     }
 }
 
@@ -113,5 +120,21 @@ fn resumed_search(
     search_turn(
         alloc,
         resume_search(alloc, names, classes, heap, search, answer)?,
+    )
+}
+
+fn resumed_distinct(
+    alloc: Global,
+    names: &Names,
+    classes: &Classes,
+    heap: &mut Heap,
+    distinct: Distinct,
+    answer: Value,
+) -> Result<Turn, OutOfMemory>
+    ensures { IfOk result (λ turn. spec.Comes (distincts.Turned heap.old (distincts.resumed names.now classes.now heap.old distinct answer)) turns.distinct_turn turn heap.new) }
+{
+    distinct_turn(
+        alloc,
+        resume_distinct(alloc, names, classes, heap, distinct, answer)?,
     )
 }

@@ -2,11 +2,13 @@
 
 ghost use Rattle.std.specs.Prelude.{◌≡◌, [], IfOk};
 ghost use Rattle.gv_frames.specs.Turns as spec;
+ghost use Rattle.gv_texts.specs.Questions.{argument_of};
 
 use crate::called::{Called, called_by};
 use crate::frame::{Turn, WalkFrame};
 use gv_base::{ExceptionKind, Names, OutOfMemory, Value};
 use gv_classes::Classes;
+use gv_distinct::DistinctTurn;
 use gv_equals::EqualTurn;
 use gv_folds::{Args, FoldTurn};
 use gv_hashes::HashTurn;
@@ -28,16 +30,24 @@ fn asked(
 ) -> Result<Turn, OutOfMemory>
     ensures { IfOk result (λ turn. turn ≡ spec.asked frame receiver question) }
 {
-    let mut args = Items::new(alloc);
-    if let Some(argument) = question.argument() {
-        args.push(argument)?;
-    }
+    let args = arguments(alloc, question)?;
     Ok(Turn::Call {
         frame,
         receiver,
         called: called_by(question),
         args,
     })
+}
+
+/// What a question is asked with.
+fn arguments(alloc: Global, question: Question) -> Result<Items<Value>, OutOfMemory>
+    ensures { IfOk result (λ args. args ≡ spec.args_of (argument_of question)) }
+{
+    let mut args = Items::new(alloc);
+    if let Some(argument) = question.argument() {
+        args.push(argument)?;
+    }
+    Ok(args)
 }
 
 pub(crate) fn truth_turn(alloc: Global, turn: TruthTurn) -> Result<Turn, OutOfMemory>
@@ -159,9 +169,36 @@ pub(crate) fn search_turn(alloc: Global, turn: SearchTurn) -> Result<Turn, OutOf
     }
 }
 
+pub(crate) fn distinct_turn(alloc: Global, turn: DistinctTurn) -> Result<Turn, OutOfMemory>
+    ensures { IfOk result (λ lifted. lifted ≡ spec.distinct_turn turn) }
+{
+    match turn {
+        DistinctTurn::Asks {
+            distinct,
+            receiver,
+            question,
+        } => asked(alloc, WalkFrame::Distinct(distinct), receiver, question),
+        DistinctTurn::Done(value) => Ok(Turn::Done(value)),
+        DistinctTurn::CellsSpent => Ok(Turn::CellsSpent),
+    }
+}
+
 /// The call of a closure.
 fn called(alloc: Global, frame: WalkFrame, closure: Value, args: Args) -> Result<Turn, OutOfMemory>
     ensures { IfOk result (λ turn. turn ≡ spec.calls frame closure args) }
+{
+    let args = values_of(alloc, args)?;
+    Ok(Turn::Call {
+        frame,
+        receiver: closure,
+        called: Called::Call,
+        args,
+    })
+}
+
+/// What a closure is called with.
+fn values_of(alloc: Global, args: Args) -> Result<Items<Value>, OutOfMemory>
+    ensures { IfOk result (λ values. values ≡ spec.values_of args) }
 {
     let mut values = Items::new(alloc);
     match args {
@@ -171,10 +208,5 @@ fn called(alloc: Global, frame: WalkFrame, closure: Value, args: Args) -> Result
             values.push(second)?;
         }
     }
-    Ok(Turn::Call {
-        frame,
-        receiver: closure,
-        called: Called::Call,
-        args: values,
-    })
+    Ok(values)
 }
