@@ -1,13 +1,14 @@
-use crate::world::{
-    A, AB, AROUND, AROUND_AX, AROUND_PIECES, AX, BA, DEEP, DEEP_TWIN, DOWN, EMPTY, ENTRY, F, G,
-    ITEM, ITEMS, LIKE_ENTRY, LIST, LONGS, MAP, META_CLASS, MIXED, N1, NESTED, NO_LIST, NO_MAP,
-    NO_PARTS, NO_RANGE, NO_TEXT, OF_AX, OF_INT, OF_ITEM, OF_ITEMS, OF_LIST, OF_LONG, OF_LONGS,
-    OF_PIECES, ONE, OTHER, PIECES, Paired, THREE, TURNED, TWIN, UNLIKE, UP, X, X_MAP, wrong_pair,
-};
+use crate::tables::{Paired, wrong_pair};
 use gv_base::Value::{Bool, Class, Int, Long, Null};
 use gv_classes::{INTEGER, STRING};
 use gv_texts::Question::{AsBoolean, Call, Enter, Equals, ToString};
 use std::test::Fail;
+use walk_world::{
+    A, AB, AROUND, AROUND_AX, AROUND_PIECES, AX, BA, DEEP, DEEP_TWIN, DOWN, EMPTY, ENTRY, F, G,
+    ITEM, ITEMS, LIKE_ENTRY, LIST, LONGS, MAP, META_CLASS, MIXED, N1, NESTED, NO_LIST, NO_MAP,
+    NO_PARTS, NO_RANGE, NO_TEXT, OF_AX, OF_INT, OF_ITEM, OF_ITEMS, OF_LIST, OF_LONG, OF_LONGS,
+    OF_PIECES, ONE, OTHER, PIECES, THREE, TURNED, TWIN, UNLIKE, UP, X, X_MAP,
+};
 
 /// Values that nobody is asked about: numbers by their values, null as itself alone, and the rest as the same ones.
 const PLAIN: [Paired; 26] = [

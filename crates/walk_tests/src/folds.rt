@@ -1,6 +1,5 @@
 use crate::folds::Step::{Handed, Judged};
-use crate::world::{A, F, ITEM, LIST, MAP, NO_LIST, NO_RANGE, THREE, UP, World};
-use gv_base::Value::{Bool, Int, Long, Null, Obj};
+use gv_base::Value::{Bool, Int, Long, Null};
 use gv_base::{OutOfMemory, Value};
 use gv_folds::Args::{One, Two};
 use gv_folds::{
@@ -10,6 +9,7 @@ use gv_heap::Object;
 use gv_texts::Question::AsBoolean;
 use std::alloc::Global;
 use std::test::Fail;
+use walk_world::{A, F, ITEM, LIST, MAP, NO_LIST, NO_RANGE, THREE, UP, World, object_of};
 
 /// A turn, and what is answered.
 #[derive(Clone, Copy)]
@@ -24,7 +24,7 @@ enum Step {
 type Folded<'a> = (&'a str, Value, &'a [Value], &'a [Step], Value);
 
 /// Methods that make nothing.
-const PLAIN: [Folded; 21] = [
+const PLAIN: [Folded; 20] = [
     ("each", NO_LIST, &[F], &[], NO_LIST),
     (
         "each",
@@ -129,7 +129,6 @@ const PLAIN: [Folded; 21] = [
         ],
         Int(2),
     ),
-    ("collect", LIST, &[F], &[Handed(One(Int(1)), Null)], Null),
 ];
 
 /// Turns, and the elements of the list that a method answers.
@@ -236,13 +235,6 @@ fn answer(
     }
 }
 
-fn object_of(value: Value) -> usize {
-    match value {
-        Obj(id) => id,
-        _ => 0,
-    }
-}
-
 #[test]
 fn folds_of_lists(rt: HostRuntime) -> Result<(), Fail> {
     let alloc = rt.alloc();
@@ -251,10 +243,11 @@ fn folds_of_lists(rt: HostRuntime) -> Result<(), Fail> {
         let (name, list, args, steps, value) = *row;
         let fold = list_fold(alloc, &world.heap, name, object_of(list), args)?;
         let answered = answer(alloc, &mut world, fold, steps)?;
-        // the last row's method has one more turn to take
-        let wanted = (place + 1 < PLAIN.len()).then_some(value);
-        assert_eq!(rt; (place, answered), (place, wanted));
+        assert_eq!(rt; (place, answered), (place, Some(value)));
     }
+    let fold = list_fold(alloc, &world.heap, "each", object_of(LIST), &[F])?;
+    let early = answer(alloc, &mut world, fold, &[Handed(One(Int(1)), Null)])?;
+    assert_eq!(rt; early, None);
     Ok(())
 }
 

@@ -3,7 +3,7 @@
 //!
 //! They stand in a crate of their own, since tests within a crate prove that crate once more.
 //!
-//! Where to begin: `texts.rt`, `truths.rt`, `equals.rt`, `folds.rt`; `world.rt` makes the heap that the tables speak of.
+//! Where to begin: `texts.rt`, `truths.rt`, `equals.rt`, `folds.rt`; the objects that the tables speak of are those of walk_world.
 #![tactic(auto)]
 
 #[cfg(test)]
@@ -11,8 +11,8 @@ mod equals;
 #[cfg(test)]
 mod folds;
 #[cfg(test)]
+mod tables;
+#[cfg(test)]
 mod texts;
 #[cfg(test)]
 mod truths;
-#[cfg(test)]
-mod world;

@@ -1,15 +1,15 @@
-use crate::world::{
-    A, AROUND, DEEP, DOWN, EMPTY, ENTRY, F, ITEM, ITEMS, KINDS, LAZY, LIST, MAP, META_CLASS,
-    META_MEMBER, META_METHOD, MIXED, NESTED, NO_LIST, NO_MAP, NO_PARTS, NO_RANGE, NO_TEXT, OF_BOTH,
-    OF_INT, OF_ITEM, OF_ITEMS, OF_LIST, ONE, OTHER, OUTER, PIECES, SAID, Said, THREE, UP, X,
-    wrong_text,
-};
+use crate::tables::{Said, wrong_text};
 use gv_base::Value;
 use gv_base::Value::{Bool, Class, Int, Long, Null};
 use gv_classes::{INTEGER, STRING};
 use gv_texts::Question;
 use gv_texts::Question::{AsBoolean, Call, Enter, Equals, HashCode, ToString};
 use std::test::Fail;
+use walk_world::{
+    A, AROUND, DEEP, DOWN, EMPTY, ENTRY, F, ITEM, ITEMS, KINDS, LAZY, LIST, MAP, META_CLASS,
+    META_MEMBER, META_METHOD, MIXED, NESTED, NO_LIST, NO_MAP, NO_PARTS, NO_RANGE, NO_TEXT, OF_BOTH,
+    OF_INT, OF_ITEM, OF_ITEMS, OF_LIST, ONE, OTHER, OUTER, PIECES, SAID, THREE, UP, X,
+};
 
 /// Values that say a text at once, and those that are entered where nothing is around them.
 const PLAIN: [Said; 30] = [

@@ -1,11 +1,12 @@
-use crate::world::{
-    A, AROUND, EMPTY, ENTRY, F, Held, ITEM, LAZY, LIST, MAP, META_CLASS, NO_LIST, NO_MAP, NO_PARTS,
-    NO_RANGE, NO_TEXT, OF_ITEM, ONE, OTHER, PIECES, UP, X, wrong_truth,
-};
+use crate::tables::{Held, wrong_truth};
 use gv_base::Value::{Bool, Class, Int, Long, Null};
 use gv_classes::STRING;
 use gv_texts::Question::{AsBoolean, Call, Enter, ToString};
 use std::test::Fail;
+use walk_world::{
+    A, AROUND, EMPTY, ENTRY, F, ITEM, LAZY, LIST, MAP, META_CLASS, NO_LIST, NO_MAP, NO_PARTS,
+    NO_RANGE, NO_TEXT, OF_ITEM, ONE, OTHER, PIECES, UP, X,
+};
 
 /// Values that nobody is asked about.
 const PLAIN: [Held; 23] = [
