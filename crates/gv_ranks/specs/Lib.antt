@@ -1,0 +1,3 @@
+pub mod Judged
+pub mod Ranks
+pub mod Sorted
